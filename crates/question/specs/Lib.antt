@@ -1,0 +1,5 @@
+pub mod Question
+pub mod Sound
+pub mod Layout
+pub mod Refusals
+pub mod Laws

@@ -3,9 +3,10 @@ use mathlib.Core.Path.{_≡_, refl, sym, ap, subst, _∙_}
 use mathlib.Core.Bool.{Bool, true, false, _&&_, cond}
 use mathlib.Core.List.{List, [], _∷_, _++_}
 use mathlib.Core.Logic.{_⊎_, inl, inr}
-use Prim.Native.Nat.{ℕ, _<_, zero-le, suc-le-suc}
+use Prim.Native.Nat.{ℕ, zero, suc, _<_, zero-le, suc-le-suc}
+use native.Mathlib.Nat.{not-suc-le-zero, le-of-suc-le-suc}
 use lib.Dec.{eqb, ltb}
-use lib.ListN.{length}
+use lib.ListN.{length, getD}
 use borrow.Author.Tests.{lt-ltb, ltb-true, eq-eqb, eqb-true, clash}
 use Rattle.std.proofs.shelf.Tests.{and-parts, and-from}
 use Rattle.question.specs.declared.terms.Term.{Term}
@@ -117,3 +118,9 @@ pub sound-from : (q : Question) → Sound q → sound q ≡ true
 unfolding sound
 sound-from q s =
     and-from _ _ (lt-ltb _ _ (s .lines)) (all-in-from (vars (q .row)) (line-vars (q .lines)) (λ x m. let u : Used x (q .lines) = s .row x (vars-in (q .row) x m) in vars-used (u .is-in) (u .stands)))
+
+-- what stands at a place is in the list
+pub in-at : {A : Type 0} (xs : List A) (k : ℕ) (d : A) → k < length xs → In (getD xs k d) xs
+in-at [] k d h = absurd (not-suc-le-zero h)
+in-at (x ∷ xs) zero d h = In.here
+in-at (x ∷ xs) (suc k) d h = In.there (in-at xs k d (le-of-suc-le-suc h))

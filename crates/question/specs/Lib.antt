@@ -2,4 +2,5 @@ pub mod Question
 pub mod Sound
 pub mod Layout
 pub mod Refusals
+pub mod Check
 pub mod Laws

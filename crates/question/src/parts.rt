@@ -1,0 +1,54 @@
+// The parts of a question in lent numbers: a line is a part of the slice, and a term is told by its value.
+ghost use mathlib.Core.Path.{_≡_};
+ghost use mathlib.Core.Bool.{true};
+ghost use mathlib.Core.List.{_∷_};
+ghost use Prim.Native.Nat.{_+_, _*_, _<_, _≤_};
+ghost use lib.ListN.{length, getD, drop};
+ghost use Rattle.question.specs.Layout.{term-fits, term-in, line-in, line-fits, line-part};
+use super::terms::Term;
+
+// The numbers of the i-th line, of lines of ten numbers each.
+pub fn nth_line(lines: &[u64], i: usize) -> &[u64]
+    requires { ⌜ 10 * i + 10 ≤ length (now lines) ⌝ }
+    ensures part { λ r. ⌜ now r ≡ line-part i (now (lines .entry)) ⌝ }
+    ensures ten { λ r. ⌜ length (now r) ≡ 10 ⌝ }
+{
+    &lines[10 * i..10 * i + 10]
+}
+
+// The table that a line names.
+pub fn table(line: &[u64]) -> u64
+    requires { ⌜ length (now line) ≡ 10 ⌝ }
+    ensures { λ r. ⌜ r ≡ line-in (now (line .entry)) .table ⌝ }
+{
+    line[0]
+}
+
+// How many terms a line has.
+pub fn width(line: &[u64]) -> usize
+    requires { ⌜ length (now line) ≡ 10 ⌝ }
+    ensures { λ r. ⌜ r ≡ length (line-in (now (line .entry)) .cells) ⌝ }
+{
+    line[1] as usize
+}
+
+// The i-th term of a line.
+pub fn line_term(line: &[u64], i: usize) -> Term
+    requires lent { ⌜ length (now line) ≡ 10 ⌝ ∗ ⌜ line-fits 256 (now line) ≡ true ⌝ }
+    requires within { ⌜ i < length (line-in (now line) .cells) ⌝ }
+    ensures { λ r. ⌜ drop i (line-in (now (line .entry)) .cells) ≡ r ∷ drop (i + 1) (line-in (now (line .entry)) .cells) ⌝ }
+{
+    nth_term(&line[2..10], i)
+}
+
+// The i-th of terms that lie in a part.
+pub fn nth_term(terms: &[u64], i: usize) -> Term
+    requires { ⌜ 2 * i + 1 < length (now terms) ⌝ ∗ ⌜ term-fits 256 (getD (now terms) (2 * i) 0) (getD (now terms) (2 * i + 1) 0) ≡ true ⌝ }
+    ensures { λ r. ⌜ r ≡ term-in (getD (now (terms .entry)) (2 * i) 0) (getD (now (terms .entry)) (2 * i + 1) 0) ⌝ }
+{
+    let number = terms[2 * i + 1];
+    if terms[2 * i] == 0 {
+        return Term::Number(number as u32);
+    }
+    Term::Variable(number as u8)
+}

@@ -6,3 +6,4 @@ pub mod Faults
 pub mod Standing
 pub mod Written
 pub mod Accepted
+pub mod Parted

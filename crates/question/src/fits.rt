@@ -21,7 +21,7 @@ fn term_of(kind: u64, number: u64) -> Option<Term>
 }
 
 // Whether the first n pairs of numbers are terms.
-pub fn terms_fit(part: &[u64], n: usize) -> bool
+pub(crate) fn terms_fit(part: &[u64], n: usize) -> bool
     requires { ⌜ 2 * n ≤ length (now part) ⌝ }
     ensures { λ r. ⌜ r ≡ terms-fit 16 n (now (part .entry)) ⌝ }
 {
@@ -34,7 +34,7 @@ pub fn terms_fit(part: &[u64], n: usize) -> bool
 }
 
 // Whether ten numbers are a line.
-pub fn line_fits(line: &[u64]) -> bool
+pub(crate) fn line_fits(line: &[u64]) -> bool
     requires { ⌜ length (now line) ≡ 10 ⌝ }
     ensures { λ r. ⌜ r ≡ line-fits 16 (now (line .entry)) ⌝ }
 {

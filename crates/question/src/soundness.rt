@@ -41,7 +41,7 @@ fn stands_in_lines(x: u8, lines: &[u64], n: usize) -> bool
 }
 
 // Whether every variable of the first n terms of a row stands in one of the first m lines.
-pub fn row_stands(row: &[u64], n: usize, lines: &[u64], m: usize) -> bool
+pub(crate) fn row_stands(row: &[u64], n: usize, lines: &[u64], m: usize) -> bool
     requires row { ⌜ 2 * n ≤ length (now row) ⌝ ∗ ⌜ terms-fit 256 n (now row) ≡ true ⌝ }
     requires lines { ⌜ 10 * m ≤ length (now lines) ⌝ ∗ ⌜ lines-fit 256 m (now lines) ≡ true ⌝ }
     ensures { λ r. ⌜ r ≡ all-in (vars (terms-in n (now (row .entry)))) (line-vars (lines-in m (now (lines .entry)))) ⌝ }

@@ -7,3 +7,4 @@ pub mod Standing
 pub mod Written
 pub mod Accepted
 pub mod Parted
+pub mod Front

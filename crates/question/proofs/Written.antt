@@ -116,16 +116,16 @@ within-fits-line xs l w t c =
     grind (arith, tells)
 
 -- terms that fit are within the limits
+pub fits-within-term : (k n : ℕ) → term-fits 16 k n ≡ true → Term-within (term-in k n)
+fits-within-term zero n e = grind (arith, tells)
+fits-within-term (suc k) n e = grind (arith, tells)
+
 pub fits-within-terms : (n : ℕ) (xs : List ℕ) → terms-fit 16 n xs ≡ true → (t : Term) → In t (terms-in n xs) → Term-within t
 unfolding terms-fit terms-in
 fits-within-terms zero xs e t i = elim i [ ]
 fits-within-terms (suc n) xs e t i =
     let f : (term-fits 16 (getD xs 0 0) (getD xs 1 0) ≡ true) × (terms-fit 16 n (drop 2 xs) ≡ true) = and-parts _ _ e in
-    in-cases (Term-within t) (λ p. subst (λ (u : Term). Term-within u) p (one (getD xs 0 0) (getD xs 1 0) (f .0))) (λ j. fits-within-terms n (drop 2 xs) (f .1) t j) i
-  where
-    one : (k m : ℕ) → term-fits 16 k m ≡ true → Term-within (term-in k m)
-    one zero m g = grind (arith, tells)
-    one (suc k) m g = grind (arith, tells)
+    in-cases (Term-within t) (λ p. subst (λ (u : Term). Term-within u) p (fits-within-term (getD xs 0 0) (getD xs 1 0) (f .0))) (λ j. fits-within-terms n (drop 2 xs) (f .1) t j) i
 
 pub fits-within-cells : (xs : List ℕ) → line-fits 16 xs ≡ true → Terms-within (line-in xs .cells)
 fits-within-cells xs e =

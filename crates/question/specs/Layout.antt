@@ -7,7 +7,7 @@ use lib.Dec.{eqb, ltb, leb}
 use lib.ListN.{length, getD, take, drop, replicate}
 use Rattle.question.specs.declared.terms.Term.{Term}
 use Rattle.question.specs.declared.terms.Term.the-variants.{Number, Variable}
-use Rattle.question.specs.Question.{Line, Question}
+use Rattle.question.specs.Question.{Line, Question, Value}
 
 -- a term is its kind and its number: 0 and a number, or 1 and a variable
 abbrev pub term-in : ℕ → ℕ → Term
@@ -69,3 +69,7 @@ lines-out (l ∷ ls) = line-out l ++ lines-out ls
 
 unfoldable pub question-out : Question → List ℕ
 question-out q = (length (q .row) ∷ padded 8 (terms-out (q .row))) ++ (length (q .lines) ∷ padded 40 (lines-out (q .lines)))
+
+-- the value that numbers give, the x-th to variable x
+abbrev pub value-in : List ℕ → Value
+value-in vs x = getD vs x 0

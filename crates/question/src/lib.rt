@@ -4,6 +4,7 @@ mod fits;
 mod laws;
 mod parts;
 mod refusals;
+mod rows;
 mod soundness;
 mod terms;
 
@@ -20,4 +21,6 @@ pub use parts::row_width;
 pub use parts::table;
 pub use parts::width;
 pub use refusals::Refusal;
+pub use rows::line_row;
+pub use rows::question_row;
 pub use terms::Term;

@@ -8,3 +8,4 @@ pub mod Written
 pub mod Accepted
 pub mod Parted
 pub mod Front
+pub mod Writing

@@ -7,6 +7,7 @@ mod refusals;
 mod rows;
 mod soundness;
 mod terms;
+mod write;
 
 pub use check::check_question;
 pub use laws::more_rows_more_answers;
@@ -24,3 +25,4 @@ pub use refusals::Refusal;
 pub use rows::line_row;
 pub use rows::question_row;
 pub use terms::Term;
+pub use write::write_question;

@@ -69,7 +69,7 @@ unfolding lines-in
 place zero xs l i = elim i [ ]
 place (suc n) xs l i =
     in-cases (Place l (suc n) xs) (λ p. record { at = 0; below = omega arith; is = p }) (λ j. let m : Place l n (drop 10 xs) = place n (drop 10 xs) l j in
-      record { at = suc (m .at); below = omega arith; is = let d : 10 * suc (m .at) ≡ 10 + 10 * m .at = omega arith in rw (d, ← drop-drop (10 * m .at) 10 xs) (m .is) }) i
+    record { at = suc (m .at); below = omega arith; is = let d : 10 * suc (m .at) ≡ 10 + 10 * m .at = omega arith in rw (d, ← drop-drop (10 * m .at) 10 xs) (m .is) }) i
 
 good-width : (i j : ℕ) (xs : List ℕ) → i < j → line-good xs j ≡ true → getD (drop (10 * i) xs) 0 0 ≡ getD (drop (10 * j) xs) 0 0 → getD (drop (10 * i) xs) 1 0 ≡ getD (drop (10 * j) xs) 1 0
 unfolding line-part
@@ -140,7 +140,7 @@ checked xs e =
       lines = no-fault-fits (getD xs 9 0) (drop 10 xs) l;
       narrow = g .1;
       row = g .2;
-      is-sound = g .3
+      is-sound = g .3;
     }
 
 -- what is accepted is a question that may be asked
@@ -156,7 +156,7 @@ accepted xs e =
       row-count = sym w;
       row = rw w (fits-writes-terms 16 (getD xs 0 0) (drop 1 xs) (simp length-drop (omega (arith, c .long, c .narrow))) (c .row));
       line-count = sym n;
-      lines = fits-writes-lines 16 (getD xs 9 0) (drop 10 xs) (simp length-drop (omega (arith, c .long, c .few))) (c .lines)
+      lines = fits-writes-lines 16 (getD xs 9 0) (drop 10 xs) (simp length-drop (omega (arith, c .long, c .few))) (c .lines);
     } in
     let allowed : Allowed (question-in xs) = record {
       row = record { few = rw w (c .narrow); each = fits-within-terms (getD xs 0 0) (drop 1 xs) (c .row) };
@@ -164,7 +164,7 @@ accepted xs e =
       tables = λ l i. within l i .table;
       cells = λ l i. within l i .cells;
       one-width = one-width-from (getD xs 9 0) (drop 10 xs) (c .good);
-      is-sound = c .is-sound
+      is-sound = c .is-sound;
     } in
     (question-in xs, writes, allowed)
 
@@ -187,8 +187,8 @@ allowed-good k q xs ws a h =
     let w : getD (take 10 (drop (10 * k) xs)) 1 0 ≡ length (l .cells) = getD-take 10 (drop (10 * k) xs) 1 0 (omega arith) ∙ at k h .count in
     and-from _ _ (line-fits-take 16 10 (drop (10 * k) xs) (omega arith) ∙ within-fits-line (drop (10 * k) xs) l (at k h) (a .tables l i) (a .cells l i))
     (agrees-from k _ _ xs (λ j b e.
-      let hj : j < length (q .lines) = omega arith in
-      at j hj .count ∙ a .one-width (getD (q .lines) j d) l (in-at (q .lines) j d hj) i (sym (at j hj .table) ∙ e ∙ t) ∙ sym w))
+    let hj : j < length (q .lines) = omega arith in
+    at j hj .count ∙ a .one-width (getD (q .lines) j d) l (in-at (q .lines) j d hj) i (sym (at j hj .table) ∙ e ∙ t) ∙ sym w))
 
 -- a question that may be asked is accepted
 pub not-refused : (xs : List ℕ) → Is-question xs → question-refusal xs ≡ None

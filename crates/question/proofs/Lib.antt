@@ -9,3 +9,4 @@ pub mod Accepted
 pub mod Parted
 pub mod Front
 pub mod Writing
+pub mod Back

@@ -43,7 +43,7 @@ fits-writes-line limit xs h e =
     record {
       table = refl;
       count = sym w;
-      cells = rw w (fits-writes-terms limit (getD xs 1 0) (drop 2 xs) (simp length-drop (omega (arith, f .1))) (f .2))
+      cells = rw w (fits-writes-terms limit (getD xs 1 0) (drop 2 xs) (simp length-drop (omega (arith, f .1))) (f .2));
     }
 
 pub fits-writes-lines : (limit n : ℕ) (xs : List ℕ) → 10 * n ≤ length xs → lines-fit limit n xs ≡ true → Writes-lines xs (lines-in n xs)

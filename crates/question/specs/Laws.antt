@@ -1,10 +1,16 @@
--- Laws of what questions answer, each a statement that a function's contract names. Assumes nothing.
+-- Laws of questions, each a statement that a function's contract names. Assumes nothing.
 use mathlib.Core.Path.{_≡_}
 use mathlib.Core.List.{List, map}
-use Prim.Native.Nat.{ℕ}
+use mathlib.Core.List.{_++_}
+use Prim.Native.Nat.{ℕ, _≤_}
+use lib.ListN.{length}
+use Rattle.std.specs.declared.option.Option.the-variants.{None}
 use Rattle.question.specs.declared.terms.Term.{Term}
 use Rattle.question.specs.declared.terms.Term.the-variants.{Number, Variable}
 use Rattle.question.specs.Question.{Line, Question, Row, Base, Answers, In}
+use Rattle.question.specs.Sound.{Allowed}
+use Rattle.question.specs.Layout.{question-in, question-out}
+use Rattle.question.specs.Check.{question-refusal}
 
 -- more rows in the tables, more rows in the answer
 abbrev pub More-rows : Type 0
@@ -20,3 +26,17 @@ abbrev pub Any-numbers : Type 0
 Any-numbers =
     (q : Question) (b : Base) (f : ℕ → ℕ) (r : Row) → ((n : ℕ) → Names q n → f n ≡ n) →
     Answers b q r → Answers (λ t. map (map f) (b t)) q (map f r)
+
+-- there is room for the question in fifty numbers
+pub record Has-room (q : Question) : Type 0 where
+  pub row : length (q .row) ≤ 4
+  pub lines : length (q .lines) ≤ 4
+  pub cells : (l : Line) → In l (q .lines) → length (l .cells) ≤ 4
+
+-- what is written reads back as the same question, whatever lies behind it
+abbrev pub Reads-back : Type 0
+Reads-back = (q : Question) → Has-room q → (more : List ℕ) → question-in (question-out q ++ more) ≡ q
+
+-- and it is accepted if it may be asked
+abbrev pub Written-accepted : Type 0
+Written-accepted = (q : Question) → Allowed q → (more : List ℕ) → question-refusal (question-out q ++ more) ≡ None

@@ -12,6 +12,8 @@ mod write;
 pub use check::check_question;
 pub use laws::more_rows_more_answers;
 pub use laws::numbers_are_only_told_apart;
+pub use laws::written_is_accepted;
+pub use laws::written_reads_back;
 pub use parts::line_at;
 pub use parts::line_count;
 pub use parts::line_term;

@@ -1,0 +1,5 @@
+pub mod Bytes
+pub mod Reading
+pub mod Reports
+pub mod Written
+pub mod Laws

@@ -1,5 +1,8 @@
 -- The number and the place that each refusal stands for. Assumes nothing: these are definitions.
+use mathlib.Core.List.{List, _++_}
 use Prim.Native.Nat.{ℕ}
+use lib.Chars.{codes}
+use Rattle.std.specs.Written.{decimal}
 use Rattle.question.specs.declared.refusals.Refusal.{Refusal}
 use Rattle.question.specs.declared.refusals.Refusal.the-variants.{CutShort, NoQuestion, NoReport, NoRoomForQuestion, TooWide, NoRoomForRow, TableTooLarge, NoRoomForTables, NoMemory}
 
@@ -24,3 +27,7 @@ place (NoRoomForRow p) = p
 place (TableTooLarge p) = p
 place (NoRoomForTables p) = p
 place NoMemory = 0
+
+-- the line that a program prints, as bytes: refused 2 at 4
+abbrev pub refusal-line : Refusal → List ℕ
+refusal-line e = (codes "refused " ++ decimal (number e)) ++ (codes " at " ++ decimal (place e))

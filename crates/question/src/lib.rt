@@ -24,6 +24,7 @@ pub use parts::row_width;
 pub use parts::table;
 pub use parts::width;
 pub use refusals::Refusal;
+pub use refusals::RefusalDisplay;
 pub use rows::line_row;
 pub use rows::question_row;
 pub use terms::Term;

@@ -1,6 +1,8 @@
 // Why a call is turned away.
 ghost use mathlib.Core.Path.{_≡_};
-ghost use Rattle.question.specs.Refusals.{number, place};
+ghost use Rattle.std.specs.declared.option.Option.the-variants.{Some};
+ghost use Rattle.question.specs.Refusals.{number, place, refusal-line};
+use std::fmt;
 
 // A case for each refusal, with its place where that varies. The numbers are 1 to 9, in this order.
 #[derive(Clone, Copy, PartialEq, Eq, Debug)]
@@ -58,5 +60,16 @@ impl Refusal {
             Refusal::TooWide => 33,
             Refusal::NoMemory => 0,
         }
+    }
+}
+
+// As a program prints it: refused 2 at 4.
+pub impl fmt::Display for Refusal as RefusalDisplay {
+    ghost shown = { λ e. Some (refusal-line e) };
+
+    fn fmt<W: fmt::Write>(&self, f: &mut fmt::Formatter<W>) -> fmt::Result {
+        let number = self.number();
+        let place = self.place();
+        write!(f, "refused {number} at {place}")
     }
 }

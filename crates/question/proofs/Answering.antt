@@ -5,6 +5,7 @@ use Prim.Native.Nat.{ℕ}
 use Rattle.question.specs.declared.terms.Term.{Term}
 use Rattle.question.specs.declared.terms.Term.the-variants.{Number, Variable}
 use Rattle.question.specs.Question.{Line, Question, Row, Base, Value, all-at, In, Stand, Answers}
+use Rattle.question.proofs.Places.{in-map}
 use Rattle.question.specs.Laws.{More-rows, Names, Any-numbers}
 
 stand-more : {b : Base} {v : Value} (c : Base) {ls : List Line} → ((t : ℕ) (s : Row) → In s (b t) → In s (c t)) → Stand b v ls → Stand c v ls
@@ -20,15 +21,11 @@ all-at-map f v [] k = refl
 all-at-map f v (Number n ∷ ts) k = ap₂ {C = Row} (λ a r. a ∷ r) (sym (k n In.here)) (all-at-map f v ts (λ m i. k m (In.there i)))
 all-at-map f v (Variable x ∷ ts) k = ap {B = Row} (λ r. f (v x) ∷ r) (all-at-map f v ts (λ m i. k m (In.there i)))
 
-in-map : (f : ℕ → ℕ) {s : Row} {rs : List Row} → In s rs → In (map f s) (map (map f) rs)
-in-map f In.here = In.here
-in-map f (In.there i) = In.there (in-map f i)
-
 stand-map : (b : Base) (f : ℕ → ℕ) (v : Value) (ls : List Line) → ((l : Line) → In l ls → (n : ℕ) → In (Number n) (l .cells) → f n ≡ n) → Stand b v ls
     → Stand (λ t. map (map f) (b t)) (λ x. f (v x)) ls
 stand-map b f v [] k Stand.none-left = Stand.none-left
 stand-map b f v (l ∷ ls) k (Stand.and-line i s) =
-    Stand.and-line (subst (λ (r : Row). In r (map (map f) (b (l .table)))) (sym (all-at-map f v (l .cells) (k l In.here))) (in-map f i)) (stand-map b f v ls (λ m j. k m (In.there j)) s)
+    Stand.and-line (subst (λ (r : Row). In r (map (map f) (b (l .table)))) (sym (all-at-map f v (l .cells) (k l In.here))) (in-map (map f) i)) (stand-map b f v ls (λ m j. k m (In.there j)) s)
 
 pub any-numbers : Any-numbers
 any-numbers q b f r keeps a =

@@ -10,3 +10,4 @@ pub mod Parted
 pub mod Front
 pub mod Writing
 pub mod Back
+pub mod Places

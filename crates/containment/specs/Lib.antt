@@ -1,0 +1,6 @@
+pub mod Reading
+pub mod Search
+pub mod Coding
+pub mod Order
+pub mod OwnTables
+pub mod Laws

@@ -1,0 +1,9 @@
+// Reading one question into another, and a question's own tables: whether one question lies within another.
+mod laws;
+
+pub use laws::any_naming_shows;
+pub use laws::naming_is_least;
+pub use laws::naming_is_new;
+pub use laws::search_is_exact;
+pub use laws::within_is_exact;
+pub use laws::within_is_reading;

@@ -1,0 +1,7 @@
+// The least question that says the same.
+mod laws;
+
+pub use laws::all_least_are_alike;
+pub use laws::least_has_the_fewest_lines;
+pub use laws::least_is_first_by_places;
+pub use laws::least_is_least;

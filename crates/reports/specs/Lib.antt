@@ -1,0 +1,4 @@
+pub mod Reports
+pub mod Expand
+pub mod Widest
+pub mod Laws

@@ -1,3 +1,4 @@
 pub mod Choosing
 pub mod Fewest
 pub mod ByPlaces
+pub mod TwoWays

@@ -5,3 +5,4 @@ pub use laws::all_least_are_alike;
 pub use laws::least_has_the_fewest_lines;
 pub use laws::least_is_first_by_places;
 pub use laws::least_is_least;
+pub use laws::two_least_choices_and_ours;

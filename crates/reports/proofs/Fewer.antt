@@ -148,7 +148,8 @@ module _ (reports : List Question) (width : ℕ) where
 
 -- few uses, of those that the reports have on the question's own lines
 pub few-on-own : (reports : List Question) (q : Question) (ls : List Line) → sound q ≡ true → ((l : Line) → In l ls → Own-use reports q l)
-    → Answered-by reports q (record { row = q .row; lines = ls }) → (o : Question) × Answered-by reports q o × (length (o .lines) ≤ length (q .lines))
+    → Answered-by reports q (record { row = q .row; lines = ls })
+    → (o : Question) × Answered-by reports q o × (length (o .lines) ≤ length (q .lines)) × ((l : Line) → In l (o .lines) → Own-use reports q l)
 unfolding Within expand
 few-on-own reports q ls sq tu a =
     let o : Question = record { row = q .row; lines = ls } in
@@ -178,6 +179,7 @@ few-on-own reports q ls sq tu a =
         no-less = λ b r t. record { value = t .value; held = uses-held reports q (chosen m ls) c (t .stand); is = t .is };
       },
       let k : length (chosen m ls) ≤ count m = length-chosen m ls in let j : count m ≤ length (q .lines) = n .few in omega arith,
+      c,
     )
 
 pub few-uses : Few-uses

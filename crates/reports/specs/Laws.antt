@@ -10,7 +10,7 @@ use Rattle.question.specs.Sound.{sound}
 use Rattle.containment.specs.Reading.{Reads}
 use Rattle.reports.specs.Reports.{Told, fits, Shaped, Answered-by, all-sound}
 use Rattle.reports.specs.Expand.{expand, Below, Narrow}
-use Rattle.reports.specs.Widest.{Widest, widest, Sorted, Too-wide}
+use Rattle.reports.specs.Widest.{Own-use, Widest, widest, Sorted, Too-wide}
 
 -- the expansion answers what the reports tell
 abbrev pub Expansion-correct : Type 0
@@ -38,11 +38,11 @@ Widest-made = (reports : List Question) (q : Question) → all-sound reports ≡
 abbrev pub Too-wide-exact : Type 0
 Too-wide-exact = (reports : List Question) (q : Question) → all-sound reports ≡ true → Too-wide reports q ↔ (32 < length (widest reports q .lines))
 
--- if the reports can answer a question at all, they can with no more uses of reports than the question has lines
+-- if the reports can answer a question at all, they can with no more uses of reports than the question has lines, all of them lines of the widest question
 abbrev pub Few-uses : Type 0
 Few-uses =
     (reports : List Question) (q p : Question) → sound q ≡ true → Answered-by reports q p →
-    (o : Question) × Answered-by reports q o × (length (o .lines) ≤ length (q .lines))
+    (o : Question) × Answered-by reports q o × (length (o .lines) ≤ length (q .lines)) × ((l : Line) → In l (o .lines) → Own-use reports q l)
 
 -- with more reports, what was right is right
 abbrev pub Still-right : Type 0

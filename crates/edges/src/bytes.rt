@@ -31,12 +31,20 @@ pub fn show_all(rt: &LibcRuntime) -> io::Result<()> {
     show_request(rt, "no report, and an empty row of no lines", &[0, 0, 0])?;
     show_request(rt, "a line without its count", &[0, 0, 1, 7, 0, 0, 0])?;
     show_request(rt, "a line without terms", &[0, 0, 1, 7, 0, 0, 0, 0])?;
-    show_request(rt, "the same and bytes behind it", &[0, 0, 1, 7, 0, 0, 0, 0, 8, 9])?;
+    show_request(
+        rt,
+        "the same and bytes behind it",
+        &[0, 0, 1, 7, 0, 0, 0, 0, 8, 9],
+    )?;
     let many = hostile(rt.alloc())?;
     show_request(rt, "255 lines of 255 terms", many.as_slice())?;
     let size = many.len();
     if size > 0 {
-        show_request(rt, "the same without its last byte", &many.as_slice()[0..size - 1])?;
+        show_request(
+            rt,
+            "the same without its last byte",
+            &many.as_slice()[0..size - 1],
+        )?;
     }
     Ok(())
 }

@@ -78,8 +78,16 @@ fn show_counts(rt: &LibcRuntime) -> io::Result<()> {
     let mut five = repeated(5);
     five[31] = 9;
     show(rt, "five lines, the third too wide", &five)?;
-    show(rt, "a table with another width at the third line", &thrice_with(31, 0))?;
-    show(rt, "another table with another width there", &thrice_with(30, 8))
+    show(
+        rt,
+        "a table with another width at the third line",
+        &thrice_with(31, 0),
+    )?;
+    show(
+        rt,
+        "another table with another width there",
+        &thrice_with(30, 8),
+    )
 }
 
 fn show_cells(rt: &LibcRuntime) -> io::Result<()> {
@@ -95,6 +103,10 @@ fn show_cells(rt: &LibcRuntime) -> io::Result<()> {
     show(rt, "2^32 - 1 at the third line", &number)?;
     number[33] = 4294967296;
     show(rt, "2^32 at the third line", &number)?;
-    show(rt, "a term of kind 2 at the second line", &thrice_with(22, 2))?;
+    show(
+        rt,
+        "a term of kind 2 at the second line",
+        &thrice_with(22, 2),
+    )?;
     show(rt, "room that is not used", &with(14, 77))
 }

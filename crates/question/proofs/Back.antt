@@ -4,14 +4,15 @@ use mathlib.Core.List.{List, [], _∷_, _++_}
 use Prim.Native.Nat.{ℕ, zero, suc, _+_, _*_, _-_, _≤_, _<_}
 use native.Mathlib.Omega.{arith}
 use lib.ListN.{length, getD, take, drop, replicate}
-use Rattle.std.proofs.shelf.Lists.{append-assoc, take-at, drop-at, getD-at, length-append}
+use Rattle.std.proofs.shelf.Lists.{append-assoc, append-nil, take-at, drop-at, getD-at, length-append}
 use Rattle.std.specs.declared.option.Option.the-variants.{None}
 use Rattle.question.specs.declared.terms.Term.{Term}
 use Rattle.question.specs.Question.{Line, Question, In}
 use Rattle.question.specs.Sound.{Allowed}
 use Rattle.question.specs.Layout.{question-in, terms-out, padded, line-out, lines-out, question-out}
+use Rattle.question.specs.Reports.{questions-in, questions-out, reports-in, reports-out}
 use Rattle.question.specs.Check.{question-refusal, Writes-terms, Writes-line, Writes-lines, Writes}
-use Rattle.question.specs.Laws.{Has-room, Reads-back, Written-accepted}
+use Rattle.question.specs.Laws.{Has-room, Reads-back, Reports-read-back, Written-accepted}
 use Rattle.question.proofs.Written.{writes-question-in}
 use Rattle.question.proofs.Accepted.{not-refused}
 use Rattle.question.proofs.Writing.{length-terms-out, length-padded, length-line-out}
@@ -34,7 +35,7 @@ lines-there (l ∷ ls) rest f =
     subst (λ (xs : List ℕ). Writes-lines xs (l ∷ ls)) (sym a)
     (Writes-lines.and-line (line-there l (lines-out ls ++ rest)) (subst (λ (xs : List ℕ). Writes-lines xs ls) (sym d) (lines-there ls rest (λ m i. f m (In.there i)))))
 
-length-lines : (ls : List Line) → ((l : Line) → In l ls → length (l .cells) ≤ 4) → length (lines-out ls) ≡ 10 * length ls
+pub length-lines : (ls : List Line) → ((l : Line) → In l ls → length (l .cells) ≤ 4) → length (lines-out ls) ≡ 10 * length ls
 unfolding lines-out
 length-lines [] f = refl
 length-lines (l ∷ ls) f =
@@ -81,3 +82,37 @@ reads-back q room more = writes-question-in (question-out q ++ more) q (there q 
 pub written-accepted : Written-accepted
 written-accepted q a more =
     not-refused (question-out q ++ more) (q, there q (record { row = a .row .few; lines = a .few; cells = λ l i. a .cells l i .few }) more, a)
+
+-- the same of several questions, one behind the other
+pub length-question-out : (q : Question) → Has-room q → length (question-out q) ≡ 50
+unfolding question-out
+length-question-out q room =
+    let e = length-padded 8 (terms-out (q .row)) (omega (arith, length-terms-out (q .row), room .row)) in
+    let s = length-padded 40 (lines-out (q .lines)) (omega (arith, length-lines (q .lines) (room .cells), room .lines)) in
+    length-append (length (q .row) ∷ padded 8 (terms-out (q .row))) (length (q .lines) ∷ padded 40 (lines-out (q .lines))) ∙ omega arith
+
+pub length-questions-out : (qs : List Question) → ((q : Question) → In q qs → Has-room q) → length (questions-out qs) ≡ 50 * length qs
+unfolding questions-out
+length-questions-out [] h = refl
+length-questions-out (q ∷ qs) h =
+    length-append (question-out q) (questions-out qs) ∙ omega (arith, length-question-out q (h q In.here), length-questions-out qs (λ r i. h r (In.there i)))
+
+questions-back : (qs : List Question) (more : List ℕ) → ((q : Question) → In q qs → Has-room q) → questions-in (length qs) (questions-out qs ++ more) ≡ qs
+unfolding questions-in questions-out
+questions-back [] more h = refl
+questions-back (q ∷ qs) more h =
+    let l : length (question-out q) ≡ 50 = length-question-out q (h q In.here) in
+    let one : question-in (question-out q) ≡ q = ap question-in (sym (append-nil (question-out q))) ∙ reads-back q (h q In.here) [] in
+    rw (
+      append-assoc (question-out q) (questions-out qs) more,
+      take-at (question-out q) (questions-out qs ++ more) 50 l,
+      drop-at (question-out q) (questions-out qs ++ more) 50 l,
+      one,
+      questions-back qs more (λ r i. h r (In.there i)),
+    )
+
+pub reports-read-back : Reports-read-back
+unfolding reports-in reports-out
+reports-read-back rs h more =
+    let z = replicate (401 - length (length rs ∷ questions-out rs)) 0 in
+    ap (questions-in (length rs)) (append-assoc (questions-out rs) z more) ∙ questions-back rs (z ++ more) h

@@ -10,6 +10,7 @@ use Rattle.question.specs.declared.terms.Term.the-variants.{Number, Variable}
 use Rattle.question.specs.Question.{Line, Question, Row, Base, Answers, In}
 use Rattle.question.specs.Sound.{Allowed}
 use Rattle.question.specs.Layout.{question-in, question-out}
+use Rattle.question.specs.Reports.{reports-in, reports-out}
 use Rattle.question.specs.Check.{question-refusal}
 
 -- more rows in the tables, more rows in the answer
@@ -37,6 +38,10 @@ pub record Has-room (q : Question) : Type 0 where
 abbrev pub Reads-back : Type 0
 Reads-back = (q : Question) → Has-room q → (more : List ℕ) → question-in (question-out q ++ more) ≡ q
 
--- and it is accepted if it may be asked
+-- the same of reports
+abbrev pub Reports-read-back : Type 0
+Reports-read-back = (rs : List Question) → ((r : Question) → In r rs → Has-room r) → (more : List ℕ) → reports-in (reports-out rs ++ more) ≡ rs
+
+-- what is written is accepted if it may be asked
 abbrev pub Written-accepted : Type 0
 Written-accepted = (q : Question) → Allowed q → (more : List ℕ) → question-refusal (question-out q ++ more) ≡ None

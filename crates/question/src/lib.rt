@@ -14,6 +14,7 @@ pub use laws::more_rows_more_answers;
 pub use laws::numbers_are_only_told_apart;
 pub use laws::written_is_accepted;
 pub use laws::written_reads_back;
+pub use laws::written_reports_read_back;
 pub use parts::line_at;
 pub use parts::line_count;
 pub use parts::line_term;

@@ -15,8 +15,11 @@ use Rattle.question.specs.declared.terms.Term.the-variants.{Number, Variable}
 use Rattle.question.specs.Question.{Line, Question, In}
 use Rattle.question.specs.Question.In.{here, there}
 use Rattle.question.specs.Layout.{padded, terms-out, line-out, lines-out, question-out}
+use Rattle.question.specs.Reports.{questions-out, reports-out}
+use Rattle.question.specs.Laws.{Has-room}
+use Rattle.question.proofs.Writing.{length-padded, length-terms-out}
+use Rattle.question.proofs.Back.{length-lines, length-questions-out}
 use Rattle.wire.specs.Bytes.{Reads, _>>=_, times, in-room, read-byte, read-number, read-term, read-row, read-line, read-question, read-reports, read-request}
-use Rattle.wire.specs.Reports.{questions-out, reports-out}
 use Rattle.wire.specs.Written.{number-bytes, term-bytes, terms-bytes, row-bytes, line-bytes, lines-bytes, question-bytes, questions-bytes, request-bytes, Small-term, Small-row, Small-line, Small}
 use Rattle.wire.specs.Laws.{Reads-back}
 use Rattle.wire.proofs.Steps.{then-read}
@@ -42,19 +45,6 @@ number-back n more h = rw (digits n h)
 pub room-fits : (n : ℕ) (xs : List ℕ) → length xs ≤ n → in-room n xs ≡ padded n xs
 room-fits n xs h = rw (take-all n xs h)
 
-pub length-padded : (n : ℕ) (xs : List ℕ) → length xs ≤ n → length (padded n xs) ≡ n
-length-padded n xs h = simp (length-append, length-replicate) (omega arith)
-
-pub length-terms : (ts : List Term) → length (terms-out ts) ≡ 2 * length ts
-unfolding terms-out
-length-terms [] = refl
-length-terms (Number n ∷ ts) = let e = length-terms ts in omega arith
-length-terms (Variable x ∷ ts) = let e = length-terms ts in omega arith
-
-pub length-line : (l : Line) → length (l .cells) ≤ 4 → length (line-out l) ≡ 10
-unfolding line-out
-length-line l h = let e = length-padded 8 (terms-out (l .cells)) (omega (arith, length-terms (l .cells))) in omega arith
-
 -- one part, and the others after it
 pub times-suc : (n : ℕ) (read : Reads (List ℕ)) (bytes mid rest first others : List ℕ) → read bytes ≡ Some (first, mid) → times n read mid ≡ Some (others, rest)
     → times (suc n) read bytes ≡ Some (first ++ others, rest)
@@ -78,7 +68,7 @@ terms-back (t ∷ ts) more h =
 pub row-back : (ts : List Term) (more : List ℕ) → Small-row ts → read-row (row-bytes ts ++ more) ≡ Some (length ts ∷ padded 8 (terms-out ts), more)
 unfolding read-row row-bytes
 row-back ts more h =
-    let e = length-terms ts in
+    let e = length-terms-out ts in
     let r : in-room 9 (length ts ∷ terms-out ts) ≡ length ts ∷ padded 8 (terms-out ts) =
     room-fits 9 (length ts ∷ terms-out ts) (omega (arith, h .few)) ∙ ap (λ n. length ts ∷ (terms-out ts ++ replicate n 0)) (omega arith) in
     then-read read-byte _ (length ts ∷ (terms-bytes ts ++ more)) _ (length ts) refl ∙ then-read (times (length ts) read-term) _ _ _ _ (terms-back ts more (h .each)) ∙ rw r
@@ -96,17 +86,9 @@ lines-back (l ∷ ls) more h =
     rw (append-assoc (line-bytes l) (lines-bytes ls) more)
     (times-suc (length ls) read-line _ _ _ _ _ (line-back l (lines-bytes ls ++ more) (h l here)) (lines-back ls more (λ s m. h s (there m))))
 
-pub length-lines : (ls : List Line) → ((l : Line) → In l ls → Small-line l) → length (lines-out ls) ≡ 10 * length ls
-unfolding lines-out
-length-lines [] h = refl
-length-lines (l ∷ ls) h =
-    let first = length-line l (h l here .cells .few) in
-    let others = length-lines ls (λ s m. h s (there m)) in
-    length-append (line-out l) (lines-out ls) ∙ omega arith
-
 -- a question of at most four lines
 pub length-row : (ts : List Term) → length ts ≤ 4 → length (length ts ∷ padded 8 (terms-out ts)) ≡ 9
-length-row ts h = let e = length-padded 8 (terms-out ts) (omega (arith, length-terms ts)) in omega arith
+length-row ts h = let e = length-padded 8 (terms-out ts) (omega (arith, length-terms-out ts)) in omega arith
 
 pub question-room : (row lines : List ℕ) (n : ℕ) → length row ≡ 9 → length lines ≤ 40 → in-room 50 (row ++ n ∷ lines) ≡ row ++ n ∷ padded 40 lines
 question-room row lines n r h =
@@ -117,20 +99,12 @@ question-room row lines n r h =
 pub question-back : (q : Question) (more : List ℕ) → Small q → read-question (question-bytes q ++ more) ≡ Some (question-out q, more)
 unfolding read-question question-bytes question-out
 question-back q more h =
-    let e = length-lines (q .lines) (h .each) in
+    let e = length-lines (q .lines) (λ l i. h .each l i .cells .few) in
     let r = question-room (length (q .row) ∷ padded 8 (terms-out (q .row))) (lines-out (q .lines)) (length (q .lines)) (length-row (q .row) (h .row .few)) (omega (arith, h .few)) in
     rw (append-assoc (row-bytes (q .row)) (length (q .lines) ∷ lines-bytes (q .lines)) more)
     (then-read read-row _ _ _ _ (row-back (q .row) (length (q .lines) ∷ (lines-bytes (q .lines) ++ more)) (h .row))
     ∙ then-read read-byte _ (length (q .lines) ∷ (lines-bytes (q .lines) ++ more)) _ (length (q .lines)) refl
     ∙ then-read (times (length (q .lines)) read-line) _ _ _ _ (lines-back (q .lines) more (h .each)) ∙ ap (λ xs. Some (xs, more)) r)
-
-pub length-question : (q : Question) → Small q → length (question-out q) ≡ 50
-unfolding question-out
-length-question q h =
-    let e = length-lines (q .lines) (h .each) in
-    let r = length-row (q .row) (h .row .few) in
-    let s = length-padded 40 (lines-out (q .lines)) (omega (arith, h .few)) in
-    length-append (length (q .row) ∷ padded 8 (terms-out (q .row))) (length (q .lines) ∷ padded 40 (lines-out (q .lines))) ∙ omega arith
 
 pub questions-back : (qs : List Question) (more : List ℕ) → ((q : Question) → In q qs → Small q)
     → times (length qs) read-question (questions-bytes qs ++ more) ≡ Some (questions-out qs, more)
@@ -140,20 +114,16 @@ questions-back (q ∷ qs) more h =
     rw (append-assoc (question-bytes q) (questions-bytes qs) more)
     (times-suc (length qs) read-question _ _ _ _ _ (question-back q (questions-bytes qs ++ more) (h q here)) (questions-back qs more (λ s m. h s (there m))))
 
-pub length-questions : (qs : List Question) → ((q : Question) → In q qs → Small q) → length (questions-out qs) ≡ 50 * length qs
-unfolding questions-out
-length-questions [] h = refl
-length-questions (q ∷ qs) h =
-    let first = length-question q (h q here) in
-    let others = length-questions qs (λ s m. h s (there m)) in
-    length-append (question-out q) (questions-out qs) ∙ omega arith
+-- what is small has room
+pub has-room : (q : Question) → Small q → Has-room q
+has-room q h = record { row = h .row .few; lines = h .few; cells = λ l i. h .each l i .cells .few }
 
 -- the reports of a request, at most eight, and its question
 pub reports-back : (rs : List Question) (more : List ℕ) → length rs ≤ 8 → ((r : Question) → In r rs → Small r)
     → read-reports (length rs ∷ (questions-bytes rs ++ more)) ≡ Some (reports-out rs, more)
 unfolding read-reports reports-out
 reports-back rs more few h =
-    let e = length-questions rs h in
+    let e = length-questions-out rs (λ r i. has-room r (h r i)) in
     let test : leb (length rs) 8 ≡ true = grind (arith, tells) in
     let r : in-room 401 (length rs ∷ questions-out rs) ≡ padded 401 (length rs ∷ questions-out rs) = room-fits 401 (length rs ∷ questions-out rs) (omega arith) in
     then-read read-byte _ (length rs ∷ (questions-bytes rs ++ more)) _ (length rs) refl

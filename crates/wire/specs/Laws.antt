@@ -7,7 +7,7 @@ use Rattle.std.specs.declared.option.Option.the-variants.{Some, None}
 use Rattle.question.specs.Question.{Question, In}
 use Rattle.question.specs.Layout.{question-in, question-out}
 use Rattle.wire.specs.Bytes.{Reads, read-question, read-request, request-of, question-of}
-use Rattle.wire.specs.Reports.{reports-in, reports-out}
+use Rattle.question.specs.Reports.{reports-in, reports-out}
 use Rattle.wire.specs.Written.{Small, question-bytes, request-bytes}
 
 -- what is written is bytes

@@ -1,5 +1,4 @@
 pub mod Bytes
 pub mod Reading
-pub mod Reports
 pub mod Written
 pub mod Laws

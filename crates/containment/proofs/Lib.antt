@@ -3,6 +3,8 @@ pub mod Chosen
 pub mod Counting
 pub mod Coding
 pub mod OwnTables
+pub mod Ranking
 pub mod Naming
+pub mod Small
 pub mod Exactly
 pub mod Searching

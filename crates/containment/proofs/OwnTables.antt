@@ -13,55 +13,62 @@ use Rattle.question.specs.Laws.{Names}
 use Rattle.question.proofs.Members.{in-left, in-right, in-cases, in-vars, vars-used}
 use Rattle.question.proofs.Places.{line-path}
 use Rattle.containment.specs.Reading.{all-put, line-put, Into, Reads}
-use Rattle.containment.specs.OwnTables.{rows-of, own-tables, Told-apart, Avoids}
+use Rattle.containment.specs.OwnTables.{rows-of, own-tables, question-vars, Told-apart, Avoids}
 
 -- the term that a number stands for, where the variables xs are named by v
 unfoldable pub read-back : Value → List ℕ → ℕ → Term
 read-back v [] n = Number n
 read-back v (x ∷ xs) n = cond (eqb (v x) n) (Variable x) (read-back v xs n)
 
-pub back-number : (v : Value) (xs : List ℕ) (n : ℕ) → ((x : ℕ) → v x ≡ n → ⊥) → read-back v xs n ≡ Number n
+pub back-number : (v : Value) (xs : List ℕ) (n : ℕ) → ((x : ℕ) → In x xs → v x ≡ n → ⊥) → read-back v xs n ≡ Number n
 unfolding read-back
 back-number v [] n f = refl
-back-number v (x ∷ xs) n f = ap (λ (b : Bool). cond b (Variable x) (read-back v xs n)) (ne-eqb (v x) n (f x)) ∙ back-number v xs n f
+back-number v (x ∷ xs) n f = ap (λ (b : Bool). cond b (Variable x) (read-back v xs n)) (ne-eqb (v x) n (f x In.here)) ∙ back-number v xs n (λ y i. f y (In.there i))
 
-pub back-variable : (v : Value) (x : ℕ) (xs : List ℕ) → Told-apart v → In x xs → read-back v xs (v x) ≡ Variable x
+pub back-variable : (v : Value) (x : ℕ) (xs : List ℕ) → ((y : ℕ) → In y xs → v y ≡ v x → y ≡ x) → In x xs → read-back v xs (v x) ≡ Variable x
 unfolding read-back
 back-variable v x [] d i = elim i [ ]
-back-variable v x (y ∷ xs) d i = go (eqb (v y) (v x)) refl i (λ j. back-variable v x xs d j)
+back-variable v x (y ∷ xs) d i = go (eqb (v y) (v x)) refl i (λ j. back-variable v x xs (λ z k. d z (In.there k)) j)
   where
     go : (b : Bool) → eqb (v y) (v x) ≡ b → In x (y ∷ xs) → (In x xs → read-back v xs (v x) ≡ Variable x) → cond b (Variable y) (read-back v xs (v x)) ≡ Variable x
-    go true e i f = ap Variable (d y x (eqb-true _ _ e))
+    go true e i f = ap Variable (d y In.here (eqb-true _ _ e))
     go false e i f = in-cases _ (λ p. absurd (clash (sym e ∙ eq-eqb (v y) (v x) (ap v p)))) f i
 
--- no variable is named as a number that stands among the terms
-abbrev pub Past : Value → List Term → Type 0
-Past v ts = (x : ℕ) → In (Number (v x)) ts → ⊥
+-- different variables among xs are named differently
+abbrev pub Different : Value → List ℕ → Type 0
+Different v xs = (x y : ℕ) → In x xs → In y xs → v x ≡ v y → x ≡ y
 
-pub past-row : (v : Value) (q : Question) → Avoids v q → Past v (q .row)
-past-row v q a x i = a x (Names.in-row i)
+-- no variable among xs is named as a number that stands among the terms
+abbrev pub Past : Value → List ℕ → List Term → Type 0
+Past v xs ts = (x : ℕ) → In x xs → In (Number (v x)) ts → ⊥
 
-pub past-line : (v : Value) (q : Question) → Avoids v q → (l : Line) → In l (q .lines) → Past v (l .cells)
-past-line v q a l j x i = a x (Names.in-line j i)
+pub past-row : (v : Value) (p q : Question) → Avoids v p q → Past v (question-vars p) (q .row)
+past-row v p q a x k i = a x k (Names.in-row i)
 
-past-head : (v : Value) (n : ℕ) (ts : List Term) → Past v (Number n ∷ ts) → (x : ℕ) → v x ≡ n → ⊥
-past-head v n ts a x e = a x (subst (λ (m : ℕ). In (Number (v x)) (Number m ∷ ts)) e In.here)
+pub past-line : (v : Value) (p q : Question) → Avoids v p q → (l : Line) → In l (q .lines) → Past v (question-vars p) (l .cells)
+past-line v p q a l j x k i = a x k (Names.in-line j i)
 
-pub backs-own : (v : Value) (xs : List ℕ) (ts : List Term) → Told-apart v → Past v ts → ((x : ℕ) → In (Variable x) ts → In x xs) → map (read-back v xs) (all-at v ts) ≡ ts
+past-head : (v : Value) (xs : List ℕ) (n : ℕ) (ts : List Term) → Past v xs (Number n ∷ ts) → (x : ℕ) → In x xs → v x ≡ n → ⊥
+past-head v xs n ts a x k e = a x k (subst (λ (m : ℕ). In (Number (v x)) (Number m ∷ ts)) e In.here)
+
+past-tail : (v : Value) (xs : List ℕ) (t : Term) (ts : List Term) → Past v xs (t ∷ ts) → Past v xs ts
+past-tail v xs t ts a x k i = a x k (In.there i)
+
+pub backs-own : (v : Value) (xs : List ℕ) (ts : List Term) → Different v xs → Past v xs ts → ((x : ℕ) → In (Variable x) ts → In x xs) → map (read-back v xs) (all-at v ts) ≡ ts
 unfolding all-at
 backs-own v xs [] d a f = refl
-backs-own v xs (Number n ∷ ts) d a f = ap₂ {C = List Term} (λ t r. t ∷ r) (back-number v xs n (past-head v n ts a)) (backs-own v xs ts d (λ x i. a x (In.there i)) (λ x i. f x (In.there i)))
-backs-own v xs (Variable y ∷ ts) d a f = ap₂ {C = List Term} (λ t r. t ∷ r) (back-variable v y xs d (f y In.here)) (backs-own v xs ts d (λ x i. a x (In.there i)) (λ x i. f x (In.there i)))
+backs-own v xs (Number n ∷ ts) d a f = ap₂ {C = List Term} (λ t r. t ∷ r) (back-number v xs n (past-head v xs n ts a)) (backs-own v xs ts d (past-tail v xs (Number n) ts a) (λ x i. f x (In.there i)))
+backs-own v xs (Variable y ∷ ts) d a f = ap₂ {C = List Term} (λ t r. t ∷ r) (back-variable v y xs (λ x i. d x y i (f y In.here)) (f y In.here)) (backs-own v xs ts d (past-tail v xs (Variable y) ts a) (λ x i. f x (In.there i)))
 
 -- what a value gives each variable, read back
 abbrev pub reading : Value → List ℕ → Value → ℕ → Term
 reading v xs u x = read-back v xs (u x)
 
-pub backs-at : (v : Value) (xs : List ℕ) (u : Value) (ts : List Term) → Past v ts → all-put (reading v xs u) ts ≡ map (read-back v xs) (all-at u ts)
+pub backs-at : (v : Value) (xs : List ℕ) (u : Value) (ts : List Term) → Past v xs ts → all-put (reading v xs u) ts ≡ map (read-back v xs) (all-at u ts)
 unfolding all-at all-put
 backs-at v xs u [] a = refl
-backs-at v xs u (Number n ∷ ts) a = ap₂ {C = List Term} (λ t r. t ∷ r) (sym (back-number v xs n (past-head v n ts a))) (backs-at v xs u ts (λ x i. a x (In.there i)))
-backs-at v xs u (Variable x ∷ ts) a = ap {B = List Term} (λ r. read-back v xs (u x) ∷ r) (backs-at v xs u ts (λ x i. a x (In.there i)))
+backs-at v xs u (Number n ∷ ts) a = ap₂ {C = List Term} (λ t r. t ∷ r) (sym (back-number v xs n (past-head v xs n ts a))) (backs-at v xs u ts (past-tail v xs (Number n) ts a))
+backs-at v xs u (Variable x ∷ ts) a = ap {B = List Term} (λ r. read-back v xs (u x) ∷ r) (backs-at v xs u ts (past-tail v xs (Variable x) ts a))
 
 -- a row of the own tables comes from a line
 pub record Comes (v : Value) (t : ℕ) (ls : List Line) (s : Row) : Type 0 where
@@ -83,42 +90,40 @@ unfolding rows-of
 comes v t [] s i = elim i [ ]
 comes v t (l ∷ ls) s i = comes-step v t l ls s (λ j. comes v t ls s j) (eqb (l .table) t) refl i
 
--- the variables of a question
-abbrev pub all-vars : Question → List ℕ
-all-vars q = vars (q .row) ++ line-vars (q .lines)
-
-pub row-var : (q : Question) (x : ℕ) → In (Variable x) (q .row) → In x (all-vars q)
+pub row-var : (q : Question) (x : ℕ) → In (Variable x) (q .row) → In x (question-vars q)
+unfolding question-vars
 row-var q x i = in-left (line-vars (q .lines)) (in-vars i)
 
-pub line-var : (q : Question) (l : Line) → In l (q .lines) → (x : ℕ) → In (Variable x) (l .cells) → In x (all-vars q)
+pub line-var : (q : Question) (l : Line) → In l (q .lines) → (x : ℕ) → In (Variable x) (l .cells) → In x (question-vars q)
+unfolding question-vars
 line-var q l j x i = in-right (vars (q .row)) (vars-used j i)
 
-module _ (v : Value) (q : Question) (d : Told-apart v) (aq : Avoids v q) where
-  pub back-line : (u : Value) (m : Line) → Past v (m .cells) → In (all-at u (m .cells)) (own-tables v q (m .table)) → In (line-put (reading v (all-vars q) u) m) (q .lines)
+module _ (v : Value) (q : Question) (d : Told-apart v q) (aq : Avoids v q q) where
+  pub back-line : (u : Value) (m : Line) → Past v (question-vars q) (m .cells) → In (all-at u (m .cells)) (own-tables v q (m .table)) → In (line-put (reading v (question-vars q) u) m) (q .lines)
   unfolding own-tables line-put
   back-line u m am i =
-      let xs : List ℕ = all-vars q in
+      let xs : List ℕ = question-vars q in
       let c : Comes v (m .table) (q .lines) (all-at u (m .cells)) = comes v (m .table) (q .lines) _ i in
       let e : c .from .cells ≡ all-put (reading v xs u) (m .cells)
-      = sym (backs-own v xs (c .from .cells) d (past-line v q aq (c .from) (c .is-in)) (line-var q (c .from) (c .is-in))) ∙ ap (map (read-back v xs)) (c .row-is) ∙ sym (backs-at v xs u (m .cells) am) in
+      = sym (backs-own v xs (c .from .cells) d (past-line v q q aq (c .from) (c .is-in)) (line-var q (c .from) (c .is-in))) ∙ ap (map (read-back v xs)) (c .row-is) ∙ sym (backs-at v xs u (m .cells) am) in
       subst (λ (x : Line). In x (q .lines)) (line-path (c .from) (line-put (reading v xs u) m) (c .table-is) e) (c .is-in)
 
-  pub back-lines : (u : Value) (ls : List Line) → ((l : Line) → In l ls → Past v (l .cells)) → Stand (own-tables v q) u ls → Into (reading v (all-vars q) u) (q .lines) ls
+  pub back-lines : (u : Value) (ls : List Line) → ((l : Line) → In l ls → Past v (question-vars q) (l .cells)) → Stand (own-tables v q) u ls → Into (reading v (question-vars q) u) (q .lines) ls
   back-lines u [] al Stand.none-left = Into.none-left
   back-lines u (l ∷ ls) al (Stand.and-line i st) = Into.and-line (back-line u l (al l In.here) i) (back-lines u ls (λ m j. al m (In.there j)) st)
 
   -- what the own tables answer is a reading into the question's lines
-  pub back-reads : (p : Question) (r : Row) → Avoids v p → Answers (own-tables v q) p r → Reads p (record { row = map (read-back v (all-vars q)) r; lines = q .lines })
+  pub back-reads : (p : Question) (r : Row) → Avoids v q p → Answers (own-tables v q) p r → Reads p (record { row = map (read-back v (question-vars q)) r; lines = q .lines })
   back-reads p r ap′ a =
       record {
-        how = reading v (all-vars q) (a .value);
-        lines = back-lines (a .value) (p .lines) (past-line v p ap′) (a .stand);
-        row = backs-at v (all-vars q) (a .value) (p .row) (past-row v p ap′) ∙ ap (map (read-back v (all-vars q))) (a .is);
+        how = reading v (question-vars q) (a .value);
+        lines = back-lines (a .value) (p .lines) (past-line v q p ap′) (a .stand);
+        row = backs-at v (question-vars q) (a .value) (p .row) (past-row v q p ap′) ∙ ap (map (read-back v (question-vars q))) (a .is);
       }
 
   -- the question's own row, read back
-  pub back-own-row : map (read-back v (all-vars q)) (all-at v (q .row)) ≡ q .row
-  back-own-row = backs-own v (all-vars q) (q .row) d (past-row v q aq) (row-var q)
+  pub back-own-row : map (read-back v (question-vars q)) (all-at v (q .row)) ≡ q .row
+  back-own-row = backs-own v (question-vars q) (q .row) d (past-row v q q aq) (row-var q)
 
 -- a question answers its own row from its own tables
 in-cond : (b : Bool) (s r : Row) (rs : List Row) → In s rs → In s (cond b (r ∷ rs) rs)
@@ -140,7 +145,7 @@ pub own-answers : (v : Value) (q : Question) → Answers (own-tables v q) q (all
 own-answers v q = record { value = v; stand = own-stand v q (q .lines) (λ m a. a); is = refl }
 
 -- a question that answers another's own row from its own tables can be read into it
-pub answers-reads : (p q : Question) (v : Value) → Told-apart v → Avoids v p → Avoids v q → Answers (own-tables v p) q (all-at v (p .row)) → Reads q p
+pub answers-reads : (p q : Question) (v : Value) → Told-apart v p → Avoids v p p → Avoids v p q → Answers (own-tables v p) q (all-at v (p .row)) → Reads q p
 answers-reads p q v d mp mq a =
-    let e : Reads q (record { row = map (read-back v (all-vars p)) (all-at v (p .row)); lines = p .lines }) = back-reads v p d mp q _ mq a in
+    let e : Reads q (record { row = map (read-back v (question-vars p)) (all-at v (p .row)); lines = p .lines }) = back-reads v p d mp q _ mq a in
     record { how = e .how; lines = e .lines; row = e .row ∙ back-own-row v p d mp }

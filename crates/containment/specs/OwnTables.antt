@@ -2,12 +2,13 @@
 use mathlib.Core.Path.{_≡_}
 use mathlib.Core.Bool.{cond}
 use mathlib.Core.List.{List, [], _∷_, _++_}
-use Prim.Native.Nat.{ℕ, zero, suc, _+_}
+use mathlib.Core.Logic.{_⊎_}
+use Prim.Native.Nat.{ℕ, zero, suc, _+_, _≤_, _<_}
 use lib.Dec.{eqb}
 use Rattle.question.specs.declared.terms.Term.{Term}
 use Rattle.question.specs.declared.terms.Term.the-variants.{Number, Variable}
-use Rattle.question.specs.Question.{Line, Question, Row, Base, Value, all-at, Answers}
-use Rattle.question.specs.Sound.{has}
+use Rattle.question.specs.Question.{Line, Question, Row, Base, Value, all-at, In, Answers}
+use Rattle.question.specs.Sound.{has, vars, line-vars}
 use Rattle.question.specs.Laws.{Names}
 
 -- the rows that the lines of table t are under a value
@@ -19,13 +20,24 @@ rows-of v t (l ∷ ls) = cond (eqb (l .table) t) (all-at v (l .cells) ∷ rows-o
 unfoldable pub own-tables : Value → Question → Base
 own-tables v q t = rows-of v t (q .lines)
 
--- different variables are named differently
-abbrev pub Told-apart : Value → Type 0
-Told-apart v = (x y : ℕ) → v x ≡ v y → x ≡ y
+-- the variables of a question
+unfoldable pub question-vars : Question → List ℕ
+question-vars q = vars (q .row) ++ line-vars (q .lines)
 
--- no variable is named as a number that the question names
-abbrev pub Avoids : Value → Question → Type 0
-Avoids v q = (x : ℕ) → Names q (v x) → ⊥
+-- different variables of p are named differently
+abbrev pub Told-apart : Value → Question → Type 0
+Told-apart v p = (x y : ℕ) → In x (question-vars p) → In y (question-vars p) → v x ≡ v y → x ≡ y
+
+-- no variable of p is named as a number that r names
+abbrev pub Avoids : Value → (p r : Question) → Type 0
+Avoids v p r = (x : ℕ) → In x (question-vars p) → Names r (v x) → ⊥
+
+-- the names of p's variables are the least that there are, in order of the variables
+pub record Least-names (v : Value) (p q : Question) : Type 0 where
+  pub from-one : (x : ℕ) → In x (question-vars p) → 1 ≤ v x
+  pub rising : (x y : ℕ) → In x (question-vars p) → In y (question-vars p) → x < y → v x < v y
+  -- each number from 1 on below a name is named by a question, or is the name of a smaller variable of p
+  pub least : (x n : ℕ) → In x (question-vars p) → 1 ≤ n → n < v x → (Names p n ⊎ Names q n) ⊎ ((y : ℕ) × In y (question-vars p) × (y < x) × (v y ≡ n))
 
 -- from p's own tables p answers its own row, and q does not
 pub record Shown (v : Value) (p q : Question) : Type 0 where
@@ -61,11 +73,16 @@ free-within ns (suc k) n = cond (has ns n) (free-within ns k (suc n)) n
 unfoldable pub free-from : List ℕ → ℕ → ℕ
 free-from ns n = free-within ns (over ns) n
 
--- the numbers from 1 on that are not in the list, in order: the x-th of them
+-- the numbers from 1 on that are not in the list, in order: the k-th of them, counted from 0
 unfoldable pub name-past : List ℕ → ℕ → ℕ
 name-past ns zero = free-from ns 1
-name-past ns (suc x) = free-from ns (suc (name-past ns x))
+name-past ns (suc k) = free-from ns (suc (name-past ns k))
 
--- our names for the variables: the least numbers from 1 on that neither question names, in order
+-- how many different numbers of the list are below x
+unfoldable pub rank : List ℕ → ℕ → ℕ
+rank xs zero = 0
+rank xs (suc x) = cond (has xs x) (suc (rank xs x)) (rank xs x)
+
+-- our names for the variables of p: the least numbers from 1 on that neither question names, in order of the variables that p has
 unfoldable pub naming : (p q : Question) → Value
-naming p q = name-past (question-numbers p ++ question-numbers q)
+naming p q x = name-past (question-numbers p ++ question-numbers q) (rank (question-vars p) x)

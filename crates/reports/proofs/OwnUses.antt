@@ -8,9 +8,9 @@ use Rattle.question.specs.declared.terms.Term.{Term}
 use Rattle.question.specs.Question.{Line, Question, Base, Value, all-at, In, Stand, Within}
 use Rattle.question.proofs.Members.{in-left, in-right}
 use Rattle.containment.specs.Reading.{put, all-put, line-put, put-lines, Reads}
-use Rattle.containment.specs.OwnTables.{own-tables, Told-apart, Avoids, question-numbers, name-past}
+use Rattle.containment.specs.OwnTables.{own-tables, question-vars, Told-apart, Avoids, question-numbers, name-past}
 use Rattle.containment.proofs.Readings.{reads-within, reads-sound, length-put, length-put-lines, in-put-lines, put-lines-each, into-from}
-use Rattle.containment.proofs.OwnTables.{read-back, reading, all-vars, past-row, past-line, backs-at, back-reads, back-own-row, own-answers}
+use Rattle.containment.proofs.OwnTables.{read-back, reading, past-row, past-line, backs-at, back-reads, back-own-row, own-answers}
 use Rattle.containment.proofs.Naming.{name-apart, name-avoids}
 use Rattle.reports.specs.Reports.{no-question, Held, Told, Shaped, Answered-by}
 use Rattle.reports.specs.Widest.{Own-use, Widest}
@@ -60,19 +60,19 @@ unfolding line-put
 read-on reports q p a =
     let ns : List ℕ = question-numbers q ++ (question-numbers p ++ report-numbers reports) in
     let v : Value = name-past ns in
-    let d : Told-apart v = name-apart ns in
-    let mq : Avoids v q = name-avoids ns q (λ n i. in-left (question-numbers p ++ report-numbers reports) i) in
-    let mp : Avoids v p = name-avoids ns p (λ n i. in-right (question-numbers q) (in-left (report-numbers reports) i)) in
+    let d : Told-apart v q = λ x y _ _. name-apart ns x y in
+    let mq : Avoids v q q = λ x _. name-avoids ns q (λ n i. in-left (question-numbers p ++ report-numbers reports) i) x in
+    let mp : Avoids v q p = λ x _. name-avoids ns p (λ n i. in-right (question-numbers q) (in-left (report-numbers reports) i)) x in
     let t : Told (own-tables v q) reports p (all-at v (q .row)) = a .no-less _ _ (own-answers v q) in
     record {
-      how = reading v (all-vars q) (t .value);
-      row = backs-at v (all-vars q) (t .value) (p .row) (past-row v p mp) ∙ ap (map (read-back v (all-vars q))) (t .is) ∙ back-own-row v q d mq;
+      how = reading v (question-vars q) (t .value);
+      row = backs-at v (question-vars q) (t .value) (p .row) (past-row v q p mp) ∙ ap (map (read-back v (question-vars q))) (t .is) ∙ back-own-row v q d mq;
       own = λ l i.
           let h = held-at i (t .held) in
           let r : Question = getD reports (l .table) no-question in
-          let mr : Avoids v r = name-avoids ns r (λ n j. in-right (question-numbers q) (in-right (question-numbers p) (in-report-numbers n (report-in reports (l .table) (h .0)) j))) in
-          let e : Reads r (record { row = map (read-back v (all-vars q)) (all-at (t .value) (l .cells)); lines = q .lines }) = back-reads v q d mq r _ mr (h .1) in
-          (h .0, record { how = e .how; lines = e .lines; row = e .row ∙ sym (backs-at v (all-vars q) (t .value) (l .cells) (past-line v p mp l i)) });
+          let mr : Avoids v q r = λ x _. name-avoids ns r (λ n j. in-right (question-numbers q) (in-right (question-numbers p) (in-report-numbers n (report-in reports (l .table) (h .0)) j))) x in
+          let e : Reads r (record { row = map (read-back v (question-vars q)) (all-at (t .value) (l .cells)); lines = q .lines }) = back-reads v q d mq r _ mr (h .1) in
+          (h .0, record { how = e .how; lines = e .lines; row = e .row ∙ sym (backs-at v (question-vars q) (t .value) (l .cells) (past-line v q p mp l i)) });
     }
 
 -- a right question on uses that the reports have on the question's own lines, as long as the one given

@@ -1,22 +1,25 @@
 -- The questions worked out, computed.
-use mathlib.Core.Path.{_≡_, refl, subst}
+use mathlib.Core.Path.{_≡_, refl, ap, subst}
 use mathlib.Core.Bool.{Bool, true, _&&_, cond}
 use mathlib.Core.List.{List, [], _∷_}
-use Prim.Native.Nat.{ℕ, _<_}
+use Prim.Native.Nat.{ℕ, zero, suc, _<_}
 use lib.Dec.{ltb}
-use borrow.Author.Tests.{ltb-true}
+use native.Mathlib.Omega.{arith}
+use borrow.Author.Tests.{ltb-true, ne-eqb}
 use Rattle.std.specs.declared.option.Option.{Option}
 use Rattle.std.proofs.shelf.Tests.{and-parts}
 use Rattle.question.specs.declared.terms.Term.the-variants.{Variable}
-use Rattle.question.specs.Question.{Line, Question, Base, all-at, In, Stand, Answers, Within}
+use Rattle.question.specs.Question.{Line, Question, Row, Base, all-at, In, Stand, Answers, Within}
 use Rattle.question.specs.Sound.{has, vars, line-vars, all-in, sound}
 use Rattle.question.specs.Layout.{terms-out}
 use Rattle.question.proofs.Members.{vars-used}
 use Rattle.containment.specs.Reading.{all-put, line-put, put-lines}
 use Rattle.containment.specs.Search.{term-eqb, match-var, match-term, match-terms, match-line, try-lines, read-lines, first-reading, can-read, fill}
 use Rattle.containment.specs.Order.{nums-less}
+use Rattle.containment.specs.OwnTables.{rows-of, own-tables, question-vars, numbers, line-numbers, question-numbers, over, free-within, free-from, name-past, rank, naming}
 use Rattle.containment.proofs.Readings.{reads-within}
 use Rattle.containment.proofs.Searching.{can-read-reads}
+use Rattle.containment.proofs.Exactly.{within-exact}
 use Rattle.minimization.specs.Choices.{choices, first-right, by-size}
 use Rattle.minimization.specs.Least.{says-same, least}
 use Rattle.reports.specs.Reports.{all-sound}
@@ -78,6 +81,16 @@ holder : Answers one-holder holders (1 ∷ [])
 unfolding all-at
 holder = record { value = λ x. cond (ltb 0 x) 2 1; stand = Stand.and-line In.here Stand.none-left; is = refl }
 
+own : (t : ℕ) → own-tables (naming holders fourth) holders t ≡ one-holder t
+unfolding own-tables rows-of all-at naming name-past rank question-vars question-numbers numbers line-numbers over free-within free-from vars line-vars has
+own zero = refl
+own (suc zero) = refl
+own (suc (suc t)) = ap (λ (b : Bool). cond {A = List Row} b ((1 ∷ 2 ∷ []) ∷ []) []) (ne-eqb 1 (suc (suc t)) (λ e. omega arith))
+
+own-named : all-at (naming holders fourth) (holders .row) ≡ 1 ∷ []
+unfolding all-at naming name-past rank question-vars question-numbers numbers line-numbers over free-within free-from vars line-vars has
+own-named = refl
+
 fourth-least : least fourth ≡ ask (Variable 0 ∷ []) (line 0 (Variable 0 ∷ Variable 1 ∷ []) ∷ line 1 (Variable 0 ∷ Variable 3 ∷ []) ∷ [])
 unfolding makes least says-same
 fourth-least = refl
@@ -86,13 +99,19 @@ fourth-reads : can-read holders fourth ≡ true
 unfolding makes
 fourth-reads = refl
 
-pub the-fourth : Fourth
+not-in-fourth : Within holders fourth → ⊥
 unfolding Within
+not-in-fourth w = no-berth (w one-holder (1 ∷ []) holder)
+
+pub the-fourth : Fourth
 the-fourth =
     record {
       least-form = fourth-least;
       lies-within = reads-within holders fourth (can-read-reads holders fourth fourth-reads);
+      own-rows = own;
+      own-row = own-named;
       holder-answers = holder;
       fourth-does-not = no-berth;
-      not-within = λ w. no-berth (w one-holder (1 ∷ []) holder);
+      shown = within-exact holders fourth .1 (λ r. not-in-fourth (reads-within fourth holders r));
+      not-within = not-in-fourth;
     }

@@ -6,7 +6,8 @@ use Rattle.std.specs.declared.option.Option.{Option}
 use Rattle.std.specs.declared.option.Option.the-variants.{Some, None}
 use Rattle.question.specs.declared.terms.Term.{Term}
 use Rattle.question.specs.declared.terms.Term.the-variants.{Number, Variable}
-use Rattle.question.specs.Question.{Line, Question, Base, Answers, In, Within}
+use Rattle.question.specs.Question.{Line, Question, Base, all-at, Answers, In, Within}
+use Rattle.containment.specs.OwnTables.{own-tables, Shown, naming}
 use Rattle.minimization.specs.Least.{least}
 use Rattle.reports.specs.Widest.{widest}
 use Rattle.rewriting.specs.Found.{Found, find}
@@ -109,10 +110,13 @@ one-holder zero = []
 one-holder (suc zero) = (1 ∷ 2 ∷ []) ∷ []
 one-holder (suc (suc t)) = []
 
--- the fourth question: its least form; it lies within the other, and not the other way round
+-- the fourth question: its least form; it lies within the other, and not the other way round, which the other's own tables show: the row 1 2 in table 1
 pub record Fourth : Type 0 where
   pub least-form : least fourth ≡ ask (x0 ∷ []) (line 0 (x0 ∷ x1 ∷ []) ∷ line 1 (x0 ∷ x3 ∷ []) ∷ [])
   pub lies-within : Within fourth holders
+  pub own-rows : (t : ℕ) → own-tables (naming holders fourth) holders t ≡ one-holder t
+  pub own-row : all-at (naming holders fourth) (holders .row) ≡ 1 ∷ []
   pub holder-answers : Answers one-holder holders (1 ∷ [])
   pub fourth-does-not : Answers one-holder fourth (1 ∷ []) → ⊥
+  pub shown : Shown (naming holders fourth) holders fourth
   pub not-within : Within holders fourth → ⊥

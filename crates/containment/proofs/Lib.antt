@@ -8,3 +8,4 @@ pub mod Naming
 pub mod Small
 pub mod Exactly
 pub mod Searching
+pub mod Numbering

@@ -239,3 +239,10 @@ name-small ns x =
             | inr t ↦ subst (λ (m : ℕ). In m (ns ++ map (name-past ns) (from-on 0 (suc x)))) (t .2) (name-of (t .0) (let j = t .1 in omega arith))
           ]
         ]
+
+-- a number that is in the list is below the free one, and none is past it
+pub free-past : (ns : List ℕ) (n : ℕ) → n ≤ free-from ns n
+free-past ns n = free-from-is ns n .from
+
+pub free-above : (ns : List ℕ) (n : ℕ) → has ns n ≡ true → n < free-from ns n
+free-above ns n e = let h : free-from ns n ≡ free-from ns (suc n) = free-next ns n e in let g : suc n ≤ free-from ns (suc n) = free-past ns (suc n) in omega arith

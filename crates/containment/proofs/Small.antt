@@ -1,13 +1,14 @@
 -- Our names for the variables of questions that may be asked are small.
 use mathlib.Core.Path.{_≡_, refl, ap}
+use mathlib.Core.Bool.{Bool, true, false, cond}
 use mathlib.Core.List.{List, [], _∷_, _++_}
-use Prim.Native.Nat.{ℕ, suc, _+_, _*_, _≤_, _<_}
+use Prim.Native.Nat.{ℕ, zero, suc, _+_, _*_, _≤_, _<_}
 use native.Mathlib.Omega.{arith}
 use lib.ListN.{length, length-append}
 use Rattle.question.specs.declared.terms.Term.{Term}
 use Rattle.question.specs.declared.terms.Term.the-variants.{Number, Variable}
 use Rattle.question.specs.Question.{Line, Question, In}
-use Rattle.question.specs.Sound.{vars, line-vars, Allowed}
+use Rattle.question.specs.Sound.{has, vars, line-vars, Allowed}
 use Rattle.containment.specs.OwnTables.{question-vars, numbers, line-numbers, question-numbers, rank, naming}
 use Rattle.containment.specs.Laws.{Naming-small}
 use Rattle.containment.proofs.Ranking.{rank-small}
@@ -52,6 +53,25 @@ pub naming-small : Naming-small
 naming-small p q lp lq x i =
     let h : naming p q x ≤ length (question-numbers p ++ question-numbers q) + suc (rank (question-vars p) x) = naming-past p q x in
     let r : rank (question-vars p) x < length (question-vars p) = rank-small (question-vars p) x i in
+    let a : length (question-numbers p ++ question-numbers q) ≡ length (question-numbers p) + length (question-numbers q) = length-append (question-numbers p) (question-numbers q) in
+    let b : length (question-numbers p) + length (question-vars p) ≤ 20 = question-count p lp in
+    let c : length (question-numbers q) + length (question-vars q) ≤ 20 = question-count q lq in
+    omega arith
+
+-- also of those that p does not have
+rank-most : (xs : List ℕ) (x : ℕ) → rank xs x ≤ x
+unfolding rank
+rank-most xs zero = omega arith
+rank-most xs (suc x) = go (has xs x) (rank-most xs x)
+  where
+    go : (b : Bool) → rank xs x ≤ x → cond b (suc (rank xs x)) (rank xs x) ≤ suc x
+    go true h = omega arith
+    go false h = omega arith
+
+pub naming-few : (p q : Question) → Allowed p → Allowed q → (x : ℕ) → x ≤ 16 → naming p q x ≤ 57
+naming-few p q lp lq x few =
+    let h : naming p q x ≤ length (question-numbers p ++ question-numbers q) + suc (rank (question-vars p) x) = naming-past p q x in
+    let r : rank (question-vars p) x ≤ x = rank-most (question-vars p) x in
     let a : length (question-numbers p ++ question-numbers q) ≡ length (question-numbers p) + length (question-numbers q) = length-append (question-numbers p) (question-numbers q) in
     let b : length (question-numbers p) + length (question-vars p) ≤ 20 = question-count p lp in
     let c : length (question-numbers q) + length (question-vars q) ≤ 20 = question-count q lq in

@@ -144,13 +144,26 @@ checked xs e =
     }
 
 -- what is accepted is a question that may be asked
+pub allowed : (xs : List ℕ) → question-refusal xs ≡ None → Allowed (question-in xs)
+unfolding question-in
+allowed xs e =
+    let c : Checked xs = checked xs e in
+    let within = fits-within-lines (getD xs 9 0) (drop 10 xs) (c .lines) in
+    record {
+      row = record { few = rw (length-terms-in (getD xs 0 0) (drop 1 xs)) (c .narrow); each = fits-within-terms (getD xs 0 0) (drop 1 xs) (c .row) };
+      few = rw (length-lines-in (getD xs 9 0) (drop 10 xs)) (c .few);
+      tables = λ l i. within l i .table;
+      cells = λ l i. within l i .cells;
+      one-width = one-width-from (getD xs 9 0) (drop 10 xs) (c .good);
+      is-sound = c .is-sound;
+    }
+
 pub accepted : (xs : List ℕ) → question-refusal xs ≡ None → Is-question xs
 unfolding question-in
 accepted xs e =
     let c : Checked xs = checked xs e in
     let n : length (lines-in (getD xs 9 0) (drop 10 xs)) ≡ getD xs 9 0 = length-lines-in (getD xs 9 0) (drop 10 xs) in
     let w : length (terms-in (getD xs 0 0) (drop 1 xs)) ≡ getD xs 0 0 = length-terms-in (getD xs 0 0) (drop 1 xs) in
-    let within = fits-within-lines (getD xs 9 0) (drop 10 xs) (c .lines) in
     let writes : Writes xs (question-in xs) = record {
       long = c .long;
       row-count = sym w;
@@ -158,15 +171,7 @@ accepted xs e =
       line-count = sym n;
       lines = fits-writes-lines 16 (getD xs 9 0) (drop 10 xs) (simp length-drop (omega (arith, c .long, c .few))) (c .lines);
     } in
-    let allowed : Allowed (question-in xs) = record {
-      row = record { few = rw w (c .narrow); each = fits-within-terms (getD xs 0 0) (drop 1 xs) (c .row) };
-      few = rw n (c .few);
-      tables = λ l i. within l i .table;
-      cells = λ l i. within l i .cells;
-      one-width = one-width-from (getD xs 9 0) (drop 10 xs) (c .good);
-      is-sound = c .is-sound;
-    } in
-    (question-in xs, writes, allowed)
+    (question-in xs, writes, allowed xs e)
 
 -- a line of what is written, by its place
 line-written : (k : ℕ) (ls : List Line) (xs : List ℕ) (d : Line) → k < length ls → Writes-lines xs ls → Writes-line (drop (10 * k) xs) (getD ls k d)

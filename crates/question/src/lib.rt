@@ -28,5 +28,6 @@ pub use refusals::Refusal;
 pub use refusals::RefusalDisplay;
 pub use rows::line_row;
 pub use rows::question_row;
+pub use soundness::has_variable;
 pub use terms::Term;
 pub use write::write_question;

@@ -1,11 +1,15 @@
-// Whether every variable of the row stands in a line.
+// Whether a variable stands in a line, and whether every variable of the row does.
 ghost use mathlib.Core.Path.{_≡_};
 ghost use mathlib.Core.Bool.{true};
 ghost use Prim.Native.Nat.{_*_, _≤_};
 ghost use lib.ListN.{length};
+ghost use Rattle.std.specs.declared.option.Option.the-variants.{None};
 ghost use Rattle.question.specs.Sound.{has, vars, line-vars, all-in};
-ghost use Rattle.question.specs.Layout.{terms-in, terms-fit, line-in, line-fits, lines-in, lines-fit};
+ghost use Rattle.question.specs.Layout.{terms-in, terms-fit, line-in, line-fits, lines-in, lines-fit, question-in};
+ghost use Rattle.question.specs.Check.{question-refusal};
+use super::parts::line_count;
 use super::parts::line_term;
+use super::parts::lines_of;
 use super::parts::nth_line;
 use super::parts::nth_term;
 use super::parts::width;
@@ -55,4 +59,12 @@ pub(crate) fn row_stands(row: &[u64], n: usize, lines: &[u64], m: usize) -> bool
         }
     }
     true
+}
+
+// Whether the variable stands in a line of the question.
+pub fn has_variable(question: &[u64], x: u8) -> bool
+    requires { ⌜ question-refusal (now question) ≡ None ⌝ }
+    ensures { λ r. ⌜ r ≡ has (line-vars (question-in (now (question .entry)) .lines)) x ⌝ }
+{
+    stands_in_lines(x, lines_of(question), line_count(question))
 }

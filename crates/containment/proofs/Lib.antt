@@ -2,6 +2,7 @@ pub mod Readings
 pub mod Chosen
 pub mod Counting
 pub mod Coding
+pub mod Codes
 pub mod OwnTables
 pub mod Naming
 pub mod Exactly

@@ -7,3 +7,5 @@ pub mod OwnTables
 pub mod Naming
 pub mod Exactly
 pub mod Searching
+pub mod Steps
+pub mod Lent

@@ -2,6 +2,7 @@ pub mod Readings
 pub mod Chosen
 pub mod Counting
 pub mod Coding
+pub mod Codes
 pub mod OwnTables
 pub mod Ranking
 pub mod Naming
@@ -9,3 +10,6 @@ pub mod Small
 pub mod Exactly
 pub mod Searching
 pub mod Numbering
+pub mod Steps
+pub mod Lent
+pub mod Found

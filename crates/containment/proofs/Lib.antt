@@ -6,3 +6,5 @@ pub mod OwnTables
 pub mod Naming
 pub mod Exactly
 pub mod Searching
+pub mod Firsts
+pub mod OwnNumbers

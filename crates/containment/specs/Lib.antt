@@ -4,3 +4,5 @@ pub mod Coding
 pub mod Order
 pub mod OwnTables
 pub mod Laws
+pub mod OwnNumbers
+pub mod ShownLaws

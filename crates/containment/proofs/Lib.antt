@@ -13,3 +13,5 @@ pub mod Numbering
 pub mod Steps
 pub mod Lent
 pub mod Found
+pub mod Firsts
+pub mod OwnNumbers

@@ -5,3 +5,5 @@ pub mod Told
 pub mod Order
 pub mod OwnTables
 pub mod Laws
+pub mod OwnNumbers
+pub mod ShownLaws

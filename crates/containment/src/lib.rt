@@ -4,6 +4,7 @@ mod laws;
 mod matching;
 mod reading;
 mod search;
+mod shown_laws;
 
 pub use laws::any_naming_shows;
 pub use laws::naming_is_least;
@@ -18,3 +19,6 @@ pub use reading::Reading;
 pub use search::first_reading;
 pub use search::read_lines;
 pub use search::reads_into;
+pub use shown_laws::numbers_answer_as_own_tables;
+pub use shown_laws::numbers_hold_own_tables;
+pub use shown_laws::numbers_of_own_tables_are_few;

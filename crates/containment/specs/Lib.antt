@@ -7,3 +7,4 @@ pub mod OwnTables
 pub mod Laws
 pub mod OwnNumbers
 pub mod ShownLaws
+pub mod Answer

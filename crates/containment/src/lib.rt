@@ -1,4 +1,5 @@
 // Reading one question into another, and a question's own tables: whether one question lies within another.
+mod answer;
 mod fresh;
 mod laws;
 mod matching;
@@ -6,6 +7,7 @@ mod reading;
 mod search;
 mod shown_laws;
 
+pub use answer::Containment;
 pub use laws::any_naming_shows;
 pub use laws::naming_is_least;
 pub use laws::naming_is_new;

@@ -15,3 +15,4 @@ pub mod Lent
 pub mod Found
 pub mod Firsts
 pub mod OwnNumbers
+pub mod Telling

@@ -13,7 +13,7 @@ use Rattle.question.specs.declared.refusals.Refusal.the-variants.{NoRoomForTabl
 use Rattle.question.specs.Question.{Question, Row, Base, all-at, Answers, Within}
 use Rattle.question.specs.Layout.{question-in}
 use Rattle.question.specs.Refusals.{number, place}
-use Rattle.question.specs.Check.{question-refusal}
+use Rattle.question.specs.Check.{cut-short, question-refusal}
 use Rattle.question.specs.Tables.{tables-in}
 use Rattle.containment.specs.declared.answer.Containment.{Containment}
 use Rattle.containment.specs.declared.answer.Containment.the-variants as answer
@@ -37,9 +37,10 @@ values-of (answer.Refused e) = place e ∷ []
 abbrev pub room-refusal : List ℕ → Option Refusal
 room-refusal room = cond (ltb (length room) 64) (Some (NoRoomForTables (length room))) None
 
--- the first refusal that applies: of the first question, of the second, of the room
+-- the first refusal that applies: a question cut short, then no question, then the room; of two questions the first before the second
 abbrev pub within-refusal : (first second room : List ℕ) → Option Refusal
-within-refusal first second room = orOther (question-refusal first) (orOther (question-refusal second) (room-refusal room))
+within-refusal first second room =
+    orOther (cut-short first) (orOther (cut-short second) (orOther (question-refusal first) (orOther (question-refusal second) (room-refusal room))))
 
 -- the tables that tell the first question from the second: its own, under our naming
 abbrev pub shown : (first second : List ℕ) → List ℕ

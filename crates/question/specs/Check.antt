@@ -37,6 +37,10 @@ row-good xs = (leb (getD xs 9 0) 4 && (leb (getD xs 0 0) 4 && terms-fit 16 (getD
 unfoldable pub fault : List ℕ → Option ℕ
 fault xs = orOther (least-fault (drop 10 xs) (min (getD xs 9 0) 4) 0) (cond (row-good xs) None (Some 4))
 
+-- a lent question is cut short
+abbrev pub cut-short : List ℕ → Option Refusal
+cut-short xs = cond (ltb (length xs) 50) (Some (CutShort (length xs))) None
+
 -- how a lent question is turned away: number 1 at its length where it is shorter than fifty, else number 2 at the fault
 unfoldable pub question-refusal : List ℕ → Option Refusal
 question-refusal xs = cond (ltb (length xs) 50) (Some (CutShort (length xs))) (mapped NoQuestion (fault xs))

@@ -2,3 +2,4 @@ pub mod Reports
 pub mod Expand
 pub mod Widest
 pub mod Laws
+pub mod Check

@@ -1,0 +1,67 @@
+-- How lent reports are turned away, beside the question that is asked of them, and what it means that they are not. Assumes nothing: these are definitions.
+use mathlib.Core.Path.{_≡_}
+use mathlib.Core.Bool.{Bool, true, false, _&&_, cond, not}
+use mathlib.Core.List.{List, [], _∷_}
+use Prim.Native.Nat.{ℕ, zero, suc, _+_, _*_, _≤_, _<_}
+use lib.Dec.{eqb, leb}
+use lib.ListN.{length, getD, take, drop}
+use Rattle.std.specs.Options.{isSome, mapped, orOther}
+use Rattle.std.specs.declared.option.Option.{Option}
+use Rattle.std.specs.declared.option.Option.the-variants.{Some, None}
+use Rattle.question.specs.declared.terms.Term.{Term}
+use Rattle.question.specs.declared.terms.Term.the-variants.{Number, Variable}
+use Rattle.question.specs.declared.refusals.Refusal.{Refusal}
+use Rattle.question.specs.declared.refusals.Refusal.the-variants.{CutShort, NoReport}
+use Rattle.question.specs.Question.{Line, Question}
+use Rattle.question.specs.Sound.{has, vars}
+use Rattle.question.specs.Layout.{question-in}
+use Rattle.question.specs.Check.{cut-short, question-refusal}
+
+-- the terms are different variables
+unfoldable pub different : List Term → Bool
+different [] = true
+different (Number n ∷ ts) = false
+different (Variable x ∷ ts) = not (has (vars ts) x) && different ts
+
+-- no line has the table with another width
+unfoldable pub same-width : List Line → Line → Bool
+same-width [] l = true
+same-width (m ∷ ms) l = cond (eqb (m .table) (l .table)) (eqb (length (m .cells)) (length (l .cells))) true && same-width ms l
+
+-- the same of each of the lines
+unfoldable pub same-widths : (ms ls : List Line) → Bool
+same-widths ms [] = true
+same-widths ms (l ∷ ls) = same-width ms l && same-widths ms ls
+
+-- the fifty numbers of the i-th report
+unfoldable pub report-part : ℕ → List ℕ → List ℕ
+report-part i reports = take 50 (drop (1 + 50 * i) reports)
+
+-- the report agrees with the first n reports on the widths of tables
+unfoldable pub agrees-before : (n : ℕ) (reports report : List ℕ) → Bool
+agrees-before zero reports report = true
+agrees-before (suc n) reports report = agrees-before n reports report && same-widths (question-in (report-part n reports) .lines) (question-in report .lines)
+
+-- the numbers are a report: a question whose row is made of different variables
+abbrev pub report-fits : List ℕ → Bool
+report-fits report = not (isSome (question-refusal report)) && different (question-in report .row)
+
+-- the i-th report is one, and agrees on the widths of tables with the question and the reports before it
+abbrev pub report-good : (question reports : List ℕ) → ℕ → Bool
+report-good question reports i =
+    report-fits (report-part i reports) && (same-widths (question-in question .lines) (question-in (report-part i reports) .lines) && agrees-before i reports (report-part i reports))
+
+-- the least report at fault, of n from the i-th on
+unfoldable pub report-fault : (question reports : List ℕ) (n i : ℕ) → Option ℕ
+report-fault question reports zero i = None
+report-fault question reports (suc n) i = cond (report-good question reports i) (report-fault question reports n (i + 1)) (Some i)
+
+-- the reports are cut short, or more than eight
+unfoldable pub reports-short : List ℕ → Option Refusal
+reports-short reports =
+    cond (leb 1 (length reports) && (leb (getD reports 0 0) 8 && leb (1 + 50 * getD reports 0 0) (length reports))) None (Some (CutShort (length reports)))
+
+-- the first refusal that applies to a question and reports: number 1 of the question, of the reports, number 2, number 3
+unfoldable pub reports-refusal : (question reports : List ℕ) → Option Refusal
+reports-refusal question reports =
+    orOther (cut-short question) (orOther (reports-short reports) (orOther (question-refusal question) (mapped NoReport (report-fault question reports (getD reports 0 0) 0))))

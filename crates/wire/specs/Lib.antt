@@ -2,4 +2,6 @@ pub mod Bytes
 pub mod Reading
 pub mod Reports
 pub mod Written
+pub mod Tables
+pub mod Texts
 pub mod Laws

@@ -25,6 +25,7 @@ use reader::Reader;
 pub use requests::Request;
 pub use tables::Table;
 pub use tables::TableFault;
+pub use tables::read_number;
 pub use tables::read_table;
 
 // Reads the reports and the question of a request. Bytes behind the question are not looked at.

@@ -68,7 +68,8 @@ fn with_digit(n: u64, digit: u8) -> Option<u64>
     n.checked_mul(10)?.checked_add(u64::from(digit - b'0'))
 }
 
-fn number_of(cell: &[u8]) -> Option<u64>
+// Reads a decimal number below 2^64.
+pub fn read_number(cell: &[u8]) -> Option<u64>
     ensures { λ r. ⌜ r ≡ cell-number (now (cell .entry)) ⌝ }
 {
     if cell.is_empty() {
@@ -91,7 +92,7 @@ fn push_row(cells: &mut Vec<u64>, line: &[u8], at: u64) -> Result<(), TableFault
     let mut rest = line;
     loop {
         let end = place_of(rest, b',');
-        let Some(n) = number_of(&rest[..end]) else {
+        let Some(n) = read_number(&rest[..end]) else {
             return Err(TableFault::Line(at));
         };
         if cells.push(n).is_err() {

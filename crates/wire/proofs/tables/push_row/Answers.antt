@@ -9,8 +9,8 @@ use Rattle.wire.proofs.tables.push_row.Needs as need
 pub returns-then-is-empty : need.returns-then-is-empty
 returns-then-is-empty c = row-empty (c .args .line .now) (vec-items (c .args .cells .now)) (grind (arith, tells))
 
-pub part-number-of-end : need.part-number-of-end
-part-number-of-end c = sym (simp length-take (omega arith))
+pub part-read-number-end : need.part-read-number-end
+part-read-number-end c = sym (simp length-take (omega arith))
 
 pub returns-in-rest : need.returns-in-rest
 returns-in-rest c = (

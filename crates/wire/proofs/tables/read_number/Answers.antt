@@ -5,7 +5,7 @@ use native.Mathlib.Omega.{arith}
 use Rattle.std.proofs.shelf.Ways.{tells}
 use Rattle.wire.specs.Tables.{cell-number}
 use Rattle.wire.proofs.CellText.{number-none, number-some, digits-step, digits-stop, digits-end}
-use Rattle.wire.proofs.tables.number_of.Needs as need
+use Rattle.wire.proofs.tables.read_number.Needs as need
 
 pub returns-then-is-empty : need.returns-then-is-empty
 returns-then-is-empty c = sym (number-none (c .args .cell .now) (grind (arith, tells)))

@@ -9,3 +9,4 @@ pub mod Splits
 pub mod CellText
 pub mod Rows
 pub mod TableBack
+pub mod Sizes

@@ -6,17 +6,17 @@ use Prim.Native.Nat.{ℕ, zero, suc, _+_, _-_, _*_, _/_, _%_, _^_, _≤_, _<_}
 use native.Mathlib.Nat.{add-zero}
 use native.Mathlib.Omega.{arith}
 use lib.Dec.{eqb, leb, ltb}
-use lib.ListN.{length, getD, take, drop}
+use lib.ListN.{length, getD}
 use Rattle.std.specs.Written.{decimal}
 use Rattle.std.proofs.shelf.Decimals.{decimal-by-steps, decimal-some}
 use Rattle.std.proofs.shelf.Lists.{append-assoc, append-nil, length-append, take-at, drop-at}
 use Rattle.std.proofs.shelf.Ways.{tells}
 use Rattle.std.specs.declared.option.Option.{Option}
 use Rattle.std.specs.declared.option.Option.the-variants.{Some, None}
-use Rattle.std.specs.declared.result.Result.the-variants.{Ok, Err}
+use Rattle.std.specs.declared.result.Result.the-variants.{Ok}
 use Rattle.question.specs.Question.{In}
 use Rattle.question.specs.Question.In.{here, there}
-use Rattle.wire.specs.Tables.{_>>=_, begin, lines, trimmed, pieces, digit-more, digits-more, cell-number, cell-numbers, line-row, Grid, no-rows, row-more, next-row, rows-more, table-of, row-text, table-text, width, all-cells, rows-out, rows-cut, rows-in}
+use Rattle.wire.specs.Tables.{_>>=_, lines, trimmed, pieces, digit-more, digits-more, cell-number, cell-numbers, line-row, Grid, no-rows, row-more, next-row, rows-more, row-text, table-text, all-cells, rows-out, rows-cut, rows-in}
 use Rattle.wire.specs.Laws.{Even-rows, Tables-read-back}
 use Rattle.wire.proofs.CellText.{number-some}
 use Rattle.wire.proofs.Splits.{trimmed-other}

@@ -1,8 +1,9 @@
 // Tables in text: one row a line, its cells decimal numbers with commas between them.
 ghost use mathlib.Core.Path.{_≡_};
 ghost use lib.ListN.{length, drop};
-ghost use Prim.Native.Nat.{_+_, _≤_};
-ghost use Rattle.std.specs.Of.Vec.{vec-items};
+ghost use Prim.Native.Nat.{_+_, _*_, _≤_};
+ghost use Rattle.std.specs.Of.Vec.{vec-len, vec-items};
+ghost use Rattle.std.specs.Vec.{made};
 ghost use Rattle.wire.specs.Tables.{trimmed, digit-more, cell-number, line-row, table-of, Told};
 ghost use Rattle.wire.specs.Texts.{until, Pushed};
 use std::alloc::Global;
@@ -107,7 +108,8 @@ fn push_row(cells: &mut Vec<u64>, line: &[u8], at: u64) -> Result<(), TableFault
 
 // Reads a table. Lines end with byte 10, but the last need not.
 pub fn read_table(heap: Global, text: &[u8]) -> Result<Table, TableFault>
-    ensures { λ r. ⌜ Told (table-of (now (text .entry))) r ⌝ }
+    ensures told { λ r. ⌜ Told (table-of (now (text .entry))) r ⌝ }
+    ensures size { λ r. ⌜ made r (λ table. vec-len (table .cells) ≡ table .rows * table .columns) ⌝ }
 {
     let mut rows = 0;
     let mut columns = 0;

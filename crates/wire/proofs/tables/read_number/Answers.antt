@@ -1,9 +1,6 @@
-use mathlib.Core.Path.{_≡_, sym, _∙_}
-use Prim.Native.Nat.{_<_}
-use lib.ListN.{length}
+use mathlib.Core.Path.{sym, _∙_}
 use native.Mathlib.Omega.{arith}
 use Rattle.std.proofs.shelf.Ways.{tells}
-use Rattle.wire.specs.Tables.{cell-number}
 use Rattle.wire.proofs.CellText.{number-none, number-some, digits-step, digits-stop, digits-end}
 use Rattle.wire.proofs.tables.read_number.Needs as need
 

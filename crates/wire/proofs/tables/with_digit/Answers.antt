@@ -1,6 +1,5 @@
 use native.Mathlib.Omega.{arith}
 use mathlib.Core.Path.{sym}
-use Prim.Native.Nat.{_+_, _-_, _*_}
 use Rattle.std.proofs.shelf.Ways.{tells}
 use Rattle.wire.specs.Tables.{digit-more}
 use Rattle.wire.proofs.CellText.{digit-large, digit-fits}

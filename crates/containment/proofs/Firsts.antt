@@ -101,6 +101,7 @@ module _ {K : Type 0} (key : Line → K) (same : Line → Line → Bool) (t : Te
     where
       rest : List Line
       rest = firsts same (before ++ l ∷ []) ls
+
       go : (b : Bool) → has-same same before l ≡ b → (In m ls → Found (before ++ l ∷ []) rest m) → Found before (cond b rest (l ∷ rest)) m
       go true e f =
           let k : Found before rest l = inl (has-like key same t before l e) in

@@ -92,15 +92,17 @@ pub numbers-hold : Numbers-hold
 unfolding tables-in tables-out own-tables lines-once table-heads
 numbers-hold v q w more t r =
     let ls : List Line = q .lines in
-    let back : tables-in (tables-out v q ++ more) t ≡ picked v (lines-once ls) t (table-heads ls) = tables-back v (lines-once ls) t (table-heads ls) more (heads-wide v q w) in
-    (λ i.
-      let c : own.Comes v t (lines-once ls) r = own.comes v t (lines-once ls) r (picked-row v (lines-once ls) t (table-heads ls) r (subst (λ (rs : List Row). In r rs) back i)) in
-      row-of v t ls (c .from) r (firsts-in line-eqb [] ls (c .from) (c .is-in)) (c .table-is) (c .row-is), λ i.
-      let c : own.Comes v t ls r = own.comes v t ls r i in
-      let l : Like itself (c .from) (lines-once ls) = firsts-like itself line-eqb tells-line ls (c .from) (c .is-in) in
-      let h : Like its-table (c .from) (table-heads ls) = firsts-like its-table one-table tells-table ls (c .from) (c .is-in) in
-      let a : In r (rows-of v t (lines-once ls)) = row-of v t (lines-once ls) (l .line) r (l .is-in) (ap its-table (l .key-is) ∙ c .table-is) (ap (λ (m : Line). all-at v (m .cells)) (l .key-is) ∙ c .row-is) in
-      subst (λ (rs : List Row). In r rs) (sym back) (row-picked v (lines-once ls) t r (h .key-is ∙ c .table-is) a (h .is-in)))
+    let back : tables-in (tables-out v q ++ more) t ≡ picked v (lines-once ls) t (table-heads ls) = tables-back v (lines-once ls) t (table-heads ls) more (heads-wide v q w) in (
+      λ i.
+          let c : own.Comes v t (lines-once ls) r = own.comes v t (lines-once ls) r (picked-row v (lines-once ls) t (table-heads ls) r (subst (λ (rs : List Row). In r rs) back i)) in
+          row-of v t ls (c .from) r (firsts-in line-eqb [] ls (c .from) (c .is-in)) (c .table-is) (c .row-is),
+      λ i.
+          let c : own.Comes v t ls r = own.comes v t ls r i in
+          let l : Like itself (c .from) (lines-once ls) = firsts-like itself line-eqb tells-line ls (c .from) (c .is-in) in
+          let h : Like its-table (c .from) (table-heads ls) = firsts-like its-table one-table tells-table ls (c .from) (c .is-in) in
+          let a : In r (rows-of v t (lines-once ls)) = row-of v t (lines-once ls) (l .line) r (l .is-in) (ap its-table (l .key-is) ∙ c .table-is) (ap (λ (m : Line). all-at v (m .cells)) (l .key-is) ∙ c .row-is) in
+          subst (λ (rs : List Row). In r rs) (sym back) (row-picked v (lines-once ls) t r (h .key-is ∙ c .table-is) a (h .is-in)),
+    )
 
 pub numbers-answer : Numbers-answer
 numbers-answer v q w more o r =
@@ -135,6 +137,7 @@ left-rows v before l (m ∷ ls) e = rw (has-push one-table before l m) (go (eqb 
   where
     rows : List Row
     rows = rows-of v (l .table) ls
+
     go : (a b d : Bool) → eqb (m .table) (l .table) ≡ a → has-same one-table before m ≡ b → eqb (l .table) (m .table) ≡ d → length rows + left (before ++ l ∷ []) ls ≤ left before ls
         → length (cond a (all-at v (m .cells) ∷ rows) rows) + cond (cond b true d) (left (before ++ l ∷ []) ls) (suc (left (before ++ l ∷ []) ls)) ≤ cond b (left before ls) (suc (left before ls))
     go true true d p q k h = absurd (clash (sym e ∙ sym (has-table-of before m l (eqb-true _ _ p)) ∙ q))
@@ -157,6 +160,7 @@ length-each v os before (l ∷ ls) few = go (has-same one-table before l) refl (
   where
     rest : List Line
     rest = firsts one-table (before ++ l ∷ []) ls
+
     go : (b : Bool) → has-same one-table before l ≡ b → length (each-out v os rest) ≤ 3 * length ls + 4 * left (before ++ l ∷ []) os
         → length (each-out v os (cond b rest (l ∷ rest))) ≤ 3 * suc (length ls) + 4 * left before os
     go true e h = omega (arith, left-fewer before l os)
@@ -168,6 +172,6 @@ numbers-few v q a =
     let os : List Line = lines-once (q .lines) in
     let few : (t : ℕ) → length (cells-out (rows-of v t os)) ≤ 4 * length (rows-of v t os)
     = λ t. few-cells (rows-of v t os) (λ r i.
-      let c : own.Comes v t os r = own.comes v t os r i in
-      subst (λ (s : Row). length s ≤ 4) (c .row-is) (rw (length-all-at v (c .from .cells)) (a .cells (c .from) (firsts-in line-eqb [] (q .lines) (c .from) (c .is-in)) .few))) in
+    let c : own.Comes v t os r = own.comes v t os r i in
+    subst (λ (s : Row). length s ≤ 4) (c .row-is) (rw (length-all-at v (c .from .cells)) (a .cells (c .from) (firsts-in line-eqb [] (q .lines) (c .from) (c .is-in)) .few))) in
     omega (arith, length-each v os [] (q .lines) few, left-all os, length-firsts line-eqb [] (q .lines), a .few)

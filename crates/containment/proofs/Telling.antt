@@ -53,12 +53,11 @@ told-within p q e = reads-within q p (can-read-reads q p e)
 pub told-apart : (p q : Question) → Allowed p → can-read q p ≡ false → (more : List ℕ) → (Within p q → ⊥) × Tells-apart (tables-in (tables-out (naming p q) p ++ more)) p q
 told-apart p q a e more =
     let no-reading : Reads q p → ⊥ = λ r. clash (sym e ∙ reads-can-read q p r) in
-    let s : Shown (naming p q) p q = within-exact p q .1 no-reading in
-    (
+    let s : Shown (naming p q) p q = within-exact p q .1 no-reading in (
       λ w. no-reading (within-reads p q w),
       record {
         row = all-at (naming p q) (p .row);
         answered = numbers-answer (naming p q) p (a .one-width) more p (all-at (naming p q) (p .row)) .1 (s .answered);
-        not-answered = λ b. s .not-answered (numbers-answer (naming p q) p (a .one-width) more q (all-at (naming p q) (p .row)) .0 b)
-      }
+        not-answered = λ b. s .not-answered (numbers-answer (naming p q) p (a .one-width) more q (all-at (naming p q) (p .row)) .0 b);
+      },
     )

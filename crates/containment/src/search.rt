@@ -18,7 +18,14 @@ use question::lines_of;
 use question::nth_line;
 
 // The first reading, past the one given, that puts the lines from the i-th of n on as some of m lines.
-pub fn read_lines(i: usize, reading: Reading, from: &[u64], n: usize, to: &[u64], m: usize) -> Option<Reading>
+pub fn read_lines(
+    i: usize,
+    reading: Reading,
+    from: &[u64],
+    n: usize,
+    to: &[u64],
+    m: usize,
+) -> Option<Reading>
     requires lent { ⌜ 10 * n ≤ length (now from) ⌝ ∗ ⌜ 10 * m ≤ length (now to) ⌝ }
     requires fit { ⌜ lines-fit 16 n (now from) ≡ true ⌝ ∗ ⌜ lines-fit 256 m (now to) ≡ true ⌝ }
     ensures { λ r. ⌜ told r ≡ read-lines (drop i (lines-in n (now (from .entry)))) (lines-in m (now (to .entry))) (part-of (reading .codes)) ⌝ }

@@ -5,3 +5,8 @@ pub mod Back
 pub mod Same
 pub mod Cut
 pub mod Below
+pub mod Splits
+pub mod CellText
+pub mod Rows
+pub mod TableBack
+pub mod Sizes

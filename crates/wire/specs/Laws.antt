@@ -1,13 +1,15 @@
 -- Laws of the byte form, each a statement that a function's contract names. Assumes nothing.
 use mathlib.Core.Path.{_≡_}
 use mathlib.Core.List.{List, _++_}
-use Prim.Native.Nat.{ℕ, _≤_, _<_}
+use Prim.Native.Nat.{ℕ, _^_, _≤_, _<_}
 use lib.ListN.{length, take}
 use Rattle.std.specs.declared.option.Option.the-variants.{Some, None}
+use Rattle.std.specs.declared.result.Result.the-variants.{Ok}
 use Rattle.question.specs.Question.{Question, In}
 use Rattle.question.specs.Layout.{question-in, question-out}
 use Rattle.wire.specs.Bytes.{Reads, read-question, read-request, request-of, question-of}
 use Rattle.question.specs.Reports.{reports-in, reports-out}
+use Rattle.wire.specs.Tables.{table-of, table-text, rows-out, rows-of}
 use Rattle.wire.specs.Written.{Small, question-bytes, request-bytes}
 
 -- what is written is bytes
@@ -55,3 +57,13 @@ Cut-short =
 
 abbrev pub Question-cut-short : Type 0
 Question-cut-short = (q : Question) (k : ℕ) → Small q → k < length (question-bytes q) → question-of (take k (question-bytes q)) ≡ None
+
+-- rows of equally many numbers below 2 ^ 64
+abbrev pub Even-rows : ℕ → List (List ℕ) → Type 0
+Even-rows columns rows = (row : List ℕ) → In row rows → (length row ≡ columns) × ((n : ℕ) → In n row → n < 2 ^ 64)
+
+-- a table that is written as text is read back: as many rows of as many cells, and the same rows
+abbrev pub Tables-read-back : Type 0
+Tables-read-back =
+    (rows : List (List ℕ)) (columns : ℕ) → Even-rows columns rows →
+    (table-of (table-text rows) ≡ Ok (rows-out rows)) × (rows-of (rows-out rows) ≡ rows)

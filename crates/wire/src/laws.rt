@@ -1,5 +1,5 @@
-// Laws of the byte form: each function's contract is one of them.
-ghost use Rattle.wire.specs.Laws.{Written-in-bytes, Reads-back, Question-reads-back, Same-request, Any-cut-short, Cut-short, Question-cut-short};
+// Laws of the byte form and of tables in text: each function's contract is one of them.
+ghost use Rattle.wire.specs.Laws.{Written-in-bytes, Reads-back, Question-reads-back, Same-request, Any-cut-short, Cut-short, Question-cut-short, Tables-read-back};
 
 pub fn requests_are_written_in_bytes() -> u8
     ensures { λ _. ⌜ Written-in-bytes ⌝ }
@@ -39,6 +39,12 @@ pub fn requests_cut_short_are_refused() -> u8
 
 pub fn questions_cut_short_are_refused() -> u8
     ensures { λ _. ⌜ Question-cut-short ⌝ }
+{
+    0
+}
+
+pub fn written_tables_are_read_back() -> u8
+    ensures { λ _. ⌜ Tables-read-back ⌝ }
 {
     0
 }

@@ -1,4 +1,4 @@
-// Requests in bytes, as programs read them, into lent numbers.
+// Requests in bytes, as programs read them, into lent numbers; and tables in text.
 ghost use mathlib.Core.Path.{_≡_};
 ghost use lib.ListN.{length};
 ghost use Rattle.std.specs.Results.{Cases};
@@ -11,6 +11,7 @@ use question::Refusal;
 mod laws;
 mod reader;
 mod requests;
+mod tables;
 
 pub use laws::numbers_are_the_same_request;
 pub use laws::only_whole_requests_are_read;
@@ -19,8 +20,13 @@ pub use laws::requests_are_written_in_bytes;
 pub use laws::requests_cut_short_are_refused;
 pub use laws::written_questions_are_read_back;
 pub use laws::written_requests_are_read_back;
+pub use laws::written_tables_are_read_back;
 use reader::Reader;
 pub use requests::Request;
+pub use tables::Table;
+pub use tables::TableFault;
+pub use tables::read_number;
+pub use tables::read_table;
 
 // Reads the reports and the question of a request. Bytes behind the question are not looked at.
 pub fn read_request(bytes: &[u8]) -> Result<Request, Refusal>

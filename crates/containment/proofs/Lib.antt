@@ -9,3 +9,4 @@ pub mod Exactly
 pub mod Searching
 pub mod Steps
 pub mod Lent
+pub mod Found

@@ -2,6 +2,7 @@
 mod laws;
 mod matching;
 mod reading;
+mod search;
 
 pub use laws::any_naming_shows;
 pub use laws::naming_is_least;
@@ -10,3 +11,6 @@ pub use laws::search_is_exact;
 pub use laws::within_is_exact;
 pub use laws::within_is_reading;
 pub use reading::Reading;
+pub use search::first_reading;
+pub use search::read_lines;
+pub use search::reads_into;

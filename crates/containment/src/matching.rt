@@ -35,7 +35,11 @@ fn match_term(reading: Reading, from: Term, to: Term) -> Option<Reading>
 {
     let wanted = code(to);
     let Term::Variable(x) = from else {
-        return if code(from) == wanted { Some(reading) } else { None };
+        return if code(from) == wanted {
+            Some(reading)
+        } else {
+            None
+        };
     };
     let put = reading.codes[x as usize];
     if put >= NOT_PUT {

@@ -12,7 +12,7 @@ returns-then-table c =
     let l = line-in (c .args .from .now) in
     let m = line-in (c .args .to .now) in
     elim (c .then-table .came) [
-      then-table·by·then-table w ↦ sym (lines-apart s l m (λ e. w .if-table .taken (cc e)))
+      | then-table·by·then-table w ↦ sym (lines-apart s l m (λ e. w .if-table .taken (cc e)))
       | then-table·by·else-table·then-n-width w ↦ sym (widths-apart s l m (λ e. w .if-n-width .taken (c .width-n .ensures ∙ e ∙ sym (w .width .ensures))))
     ]
 

@@ -1,18 +1,17 @@
--- The terms of a line and of a row, in the part of the numbers that is handed on.
+-- What is handed on: the terms of a line and of a row, and the next term and line of a loop.
 use mathlib.Core.Path.{_≡_, sym, _∙_}
 use mathlib.Core.Bool.{true}
-use mathlib.Core.List.{List}
-use Prim.Native.Nat.{ℕ, _-_, _*_, _≤_}
+use mathlib.Core.List.{List, _∷_}
+use Prim.Native.Nat.{ℕ, _+_, _-_, _*_, _≤_, _<_}
 use native.Mathlib.Omega.{arith}
 use lib.ListN.{length, getD, take, drop}
 use Rattle.std.proofs.shelf.Lists.{take-rest, length-drop}
 use Rattle.std.specs.declared.option.Option.the-variants.{None}
 use Rattle.question.specs.declared.terms.Term.{Term}
-use Rattle.question.specs.Layout.{terms-in, terms-fit, line-in, line-fits, question-in}
+use Rattle.question.specs.Layout.{term-in, terms-in, terms-fit, line-in, line-fits, lines-in, lines-fit, line-part, question-in}
 use Rattle.question.specs.Check.{question-refusal}
-use Rattle.question.proofs.Fitting.{line-fits-cells}
-use Rattle.question.proofs.Decoding.{length-terms-in}
-use Rattle.question.proofs.Parted.{row-count}
+use Rattle.question.proofs.Fitting.{line-fits-cells, lines-fit-at}
+use Rattle.question.proofs.Decoding.{length-terms-in, terms-in-next, lines-in-next}
 use Rattle.question.proofs.Accepted.{checked}
 
 -- w terms lie in the part, and they are these
@@ -35,3 +34,12 @@ row-lent w xs q e =
     let r = take-rest xs 1 in
     let n : w ≡ getD xs 0 0 = e ∙ length-terms-in (getD xs 0 0) (drop 1 xs) in
     record { room = rw r (simp length-drop (omega (arith, c .narrow, c .long))); fits = rw (r, n) (c .row); is = rw (r, n) }
+
+pub next-term : (n i : ℕ) (xs : List ℕ) (t : Term) → i < n → t ≡ term-in (getD xs (2 * i) 0) (getD xs (2 * i + 1) 0) → drop i (terms-in n xs) ≡ t ∷ drop (i + 1) (terms-in n xs)
+next-term n i xs t h e = rw e (terms-in-next n i xs h)
+
+pub next-line : (limit n i : ℕ) (xs part : List ℕ) → i < n → lines-fit limit n xs ≡ true → part ≡ line-part i xs → drop i (lines-in n xs) ≡ line-in part ∷ drop (i + 1) (lines-in n xs)
+next-line limit n i xs part h f e = rw e (lines-in-next limit n i xs h f)
+
+pub next-fits : (limit n i : ℕ) (xs part : List ℕ) → i < n → lines-fit limit n xs ≡ true → part ≡ line-part i xs → line-fits limit part ≡ true
+next-fits limit n i xs part h f e = rw e (lines-fit-at limit n i xs h f)

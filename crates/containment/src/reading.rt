@@ -16,7 +16,7 @@ pub struct Reading {
 
 impl Reading {
     // The reading that puts nothing yet.
-    pub(crate) fn nothing() -> Reading
+    pub fn nothing() -> Reading
         ensures { λ r. ⌜ part-of (r .codes) ≡ nothing ⌝ }
     {
         Reading {

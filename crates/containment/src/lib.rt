@@ -17,6 +17,7 @@ pub use laws::search_is_exact;
 pub use laws::within_is_decided;
 pub use laws::within_is_exact;
 pub use laws::within_is_reading;
+pub use matching::match_line;
 pub use reading::Reading;
 pub use search::first_reading;
 pub use search::read_lines;

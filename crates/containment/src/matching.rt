@@ -67,7 +67,7 @@ fn match_terms(reading: Reading, from: &[u64], to: &[u64], n: usize) -> Option<R
 }
 
 // The reading, made to put a line as another, of the same table and width.
-pub(crate) fn match_line(reading: Reading, from: &[u64], to: &[u64]) -> Option<Reading>
+pub fn match_line(reading: Reading, from: &[u64], to: &[u64]) -> Option<Reading>
     requires lent { ⌜ length (now from) ≡ 10 ⌝ ∗ ⌜ length (now to) ≡ 10 ⌝ }
     requires fit { ⌜ line-fits 16 (now from) ≡ true ⌝ ∗ ⌜ line-fits 256 (now to) ≡ true ⌝ }
     ensures { λ r. ⌜ told r ≡ match-line (part-of (reading .codes)) (line-in (now (from .entry))) (line-in (now (to .entry))) ⌝ }

@@ -1,6 +1,6 @@
 -- Of lines that are the same by a test, the first: what is among them.
 use mathlib.Core.Path.{_≡_, refl, ap, ap₂, subst, _∙_}
-use mathlib.Core.Bool.{Bool, true, false, cond, _&&_}
+use mathlib.Core.Bool.{Bool, true, false, cond}
 use mathlib.Core.List.{List, [], _∷_, _++_}
 use mathlib.Core.Logic.{_⊎_, inl, inr}
 use Prim.Native.Nat.{ℕ, suc, _≤_}
@@ -101,6 +101,7 @@ module _ {K : Type 0} (key : Line → K) (same : Line → Line → Bool) (t : Te
     where
       rest : List Line
       rest = firsts same (before ++ l ∷ []) ls
+
       go : (b : Bool) → has-same same before l ≡ b → (In m ls → Found (before ++ l ∷ []) rest m) → Found before (cond b rest (l ∷ rest)) m
       go true e f =
           let k : Found before rest l = inl (has-like key same t before l e) in

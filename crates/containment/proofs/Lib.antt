@@ -8,3 +8,4 @@ pub mod Exactly
 pub mod Searching
 pub mod Firsts
 pub mod OwnNumbers
+pub mod Turns

@@ -1,21 +1,26 @@
 -- A question's own tables as numbers: what they hold, and how many they are.
-use mathlib.Core.Path.{_≡_, refl, sym, ap, ap₂, subst, _∙_}
+use mathlib.Core.Path.{_≡_, refl, sym, ap, subst, _∙_}
 use mathlib.Core.Bool.{Bool, true, false, cond}
 use mathlib.Core.List.{List, [], _∷_, _++_}
-use mathlib.Core.Logic.{_⊎_, inl, inr}
+use mathlib.Core.Logic.{inl, inr}
 use Prim.Native.Nat.{ℕ, suc, _+_, _*_, _≤_}
 use native.Mathlib.Omega.{arith}
 use native.Mathlib.Nat.{add-mul}
 use lib.Dec.{eqb}
-use lib.ListN.{length, take, drop}
-use borrow.Author.Tests.{eq-eqb, ne-eqb, eqb-true, eqb-false, clash}
+use lib.ListN.{length}
+use borrow.Author.Tests.{eq-eqb, eqb-true, eqb-false, clash}
 use Rattle.std.proofs.shelf.Lists.{append-assoc, length-append, take-at, drop-at}
+use Rattle.std.specs.declared.option.Option.the-variants.{None}
 use Rattle.question.specs.Question.{Line, Question, Row, Value, all-at, In}
 use Rattle.question.specs.Sound.{One-width, Allowed}
-use Rattle.question.specs.Tables.{rows-in, table-size, table-rows, tables-in}
-use Rattle.question.proofs.Members.{in-left, in-right, in-split, in-cases}
+use Rattle.question.specs.Layout.{question-in}
+use Rattle.question.specs.Check.{question-refusal, Is-question}
+use Rattle.question.specs.Tables.{rows-in, table-rows, tables-in}
+use Rattle.question.proofs.Members.{in-left, in-right, in-split}
 use Rattle.question.proofs.Front.{length-all-at}
 use Rattle.question.proofs.Answering.{more-rows}
+use Rattle.question.proofs.Accepted.{accepted}
+use Rattle.question.proofs.Written.{writes-question-in}
 use Rattle.containment.specs.OwnTables.{rows-of, own-tables}
 use Rattle.containment.specs.OwnNumbers.{line-eqb, one-table, has-same, firsts, lines-once, table-heads, cells-out, table-out, each-out, tables-out}
 use Rattle.containment.specs.ShownLaws.{Numbers-hold, Numbers-answer, Numbers-few}
@@ -92,15 +97,17 @@ pub numbers-hold : Numbers-hold
 unfolding tables-in tables-out own-tables lines-once table-heads
 numbers-hold v q w more t r =
     let ls : List Line = q .lines in
-    let back : tables-in (tables-out v q ++ more) t ≡ picked v (lines-once ls) t (table-heads ls) = tables-back v (lines-once ls) t (table-heads ls) more (heads-wide v q w) in
-    (λ i.
-      let c : own.Comes v t (lines-once ls) r = own.comes v t (lines-once ls) r (picked-row v (lines-once ls) t (table-heads ls) r (subst (λ (rs : List Row). In r rs) back i)) in
-      row-of v t ls (c .from) r (firsts-in line-eqb [] ls (c .from) (c .is-in)) (c .table-is) (c .row-is), λ i.
-      let c : own.Comes v t ls r = own.comes v t ls r i in
-      let l : Like itself (c .from) (lines-once ls) = firsts-like itself line-eqb tells-line ls (c .from) (c .is-in) in
-      let h : Like its-table (c .from) (table-heads ls) = firsts-like its-table one-table tells-table ls (c .from) (c .is-in) in
-      let a : In r (rows-of v t (lines-once ls)) = row-of v t (lines-once ls) (l .line) r (l .is-in) (ap its-table (l .key-is) ∙ c .table-is) (ap (λ (m : Line). all-at v (m .cells)) (l .key-is) ∙ c .row-is) in
-      subst (λ (rs : List Row). In r rs) (sym back) (row-picked v (lines-once ls) t r (h .key-is ∙ c .table-is) a (h .is-in)))
+    let back : tables-in (tables-out v q ++ more) t ≡ picked v (lines-once ls) t (table-heads ls) = tables-back v (lines-once ls) t (table-heads ls) more (heads-wide v q w) in (
+      λ i.
+          let c : own.Comes v t (lines-once ls) r = own.comes v t (lines-once ls) r (picked-row v (lines-once ls) t (table-heads ls) r (subst (λ (rs : List Row). In r rs) back i)) in
+          row-of v t ls (c .from) r (firsts-in line-eqb [] ls (c .from) (c .is-in)) (c .table-is) (c .row-is),
+      λ i.
+          let c : own.Comes v t ls r = own.comes v t ls r i in
+          let l : Like itself (c .from) (lines-once ls) = firsts-like itself line-eqb tells-line ls (c .from) (c .is-in) in
+          let h : Like its-table (c .from) (table-heads ls) = firsts-like its-table one-table tells-table ls (c .from) (c .is-in) in
+          let a : In r (rows-of v t (lines-once ls)) = row-of v t (lines-once ls) (l .line) r (l .is-in) (ap its-table (l .key-is) ∙ c .table-is) (ap (λ (m : Line). all-at v (m .cells)) (l .key-is) ∙ c .row-is) in
+          subst (λ (rs : List Row). In r rs) (sym back) (row-picked v (lines-once ls) t r (h .key-is ∙ c .table-is) a (h .is-in)),
+    )
 
 pub numbers-answer : Numbers-answer
 numbers-answer v q w more o r =
@@ -135,6 +142,7 @@ left-rows v before l (m ∷ ls) e = rw (has-push one-table before l m) (go (eqb 
   where
     rows : List Row
     rows = rows-of v (l .table) ls
+
     go : (a b d : Bool) → eqb (m .table) (l .table) ≡ a → has-same one-table before m ≡ b → eqb (l .table) (m .table) ≡ d → length rows + left (before ++ l ∷ []) ls ≤ left before ls
         → length (cond a (all-at v (m .cells) ∷ rows) rows) + cond (cond b true d) (left (before ++ l ∷ []) ls) (suc (left (before ++ l ∷ []) ls)) ≤ cond b (left before ls) (suc (left before ls))
     go true true d p q k h = absurd (clash (sym e ∙ sym (has-table-of before m l (eqb-true _ _ p)) ∙ q))
@@ -157,6 +165,7 @@ length-each v os before (l ∷ ls) few = go (has-same one-table before l) refl (
   where
     rest : List Line
     rest = firsts one-table (before ++ l ∷ []) ls
+
     go : (b : Bool) → has-same one-table before l ≡ b → length (each-out v os rest) ≤ 3 * length ls + 4 * left (before ++ l ∷ []) os
         → length (each-out v os (cond b rest (l ∷ rest))) ≤ 3 * suc (length ls) + 4 * left before os
     go true e h = omega (arith, left-fewer before l os)
@@ -168,6 +177,12 @@ numbers-few v q a =
     let os : List Line = lines-once (q .lines) in
     let few : (t : ℕ) → length (cells-out (rows-of v t os)) ≤ 4 * length (rows-of v t os)
     = λ t. few-cells (rows-of v t os) (λ r i.
-      let c : own.Comes v t os r = own.comes v t os r i in
-      subst (λ (s : Row). length s ≤ 4) (c .row-is) (rw (length-all-at v (c .from .cells)) (a .cells (c .from) (firsts-in line-eqb [] (q .lines) (c .from) (c .is-in)) .few))) in
+    let c : own.Comes v t os r = own.comes v t os r i in
+    subst (λ (s : Row). length s ≤ 4) (c .row-is) (rw (length-all-at v (c .from .cells)) (a .cells (c .from) (firsts-in line-eqb [] (q .lines) (c .from) (c .is-in)) .few))) in
     omega (arith, length-each v os [] (q .lines) few, left-all os, length-firsts line-eqb [] (q .lines), a .few)
+
+-- the same of a lent question
+pub lent-few : (v : Value) (xs : List ℕ) → question-refusal xs ≡ None → length (tables-out v (question-in xs)) ≤ 29
+lent-few v xs e =
+    let a : Is-question xs = accepted xs e in
+    numbers-few v (question-in xs) (subst (λ (q : Question). Allowed q) (sym (writes-question-in xs (a .0) (a .1))) (a .2))

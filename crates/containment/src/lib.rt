@@ -1,5 +1,6 @@
 // Reading one question into another, and a question's own tables: whether one question lies within another.
 mod laws;
+mod shown;
 mod shown_laws;
 
 pub use laws::any_naming_shows;

@@ -16,3 +16,4 @@ pub mod Found
 pub mod Firsts
 pub mod OwnNumbers
 pub mod Telling
+pub mod Turns

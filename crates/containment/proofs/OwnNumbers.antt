@@ -1,21 +1,26 @@
 -- A question's own tables as numbers: what they hold, and how many they are.
-use mathlib.Core.Path.{_≡_, refl, sym, ap, ap₂, subst, _∙_}
+use mathlib.Core.Path.{_≡_, refl, sym, ap, subst, _∙_}
 use mathlib.Core.Bool.{Bool, true, false, cond}
 use mathlib.Core.List.{List, [], _∷_, _++_}
-use mathlib.Core.Logic.{_⊎_, inl, inr}
+use mathlib.Core.Logic.{inl, inr}
 use Prim.Native.Nat.{ℕ, suc, _+_, _*_, _≤_}
 use native.Mathlib.Omega.{arith}
 use native.Mathlib.Nat.{add-mul}
 use lib.Dec.{eqb}
-use lib.ListN.{length, take, drop}
-use borrow.Author.Tests.{eq-eqb, ne-eqb, eqb-true, eqb-false, clash}
+use lib.ListN.{length}
+use borrow.Author.Tests.{eq-eqb, eqb-true, eqb-false, clash}
 use Rattle.std.proofs.shelf.Lists.{append-assoc, length-append, take-at, drop-at}
+use Rattle.std.specs.declared.option.Option.the-variants.{None}
 use Rattle.question.specs.Question.{Line, Question, Row, Value, all-at, In}
 use Rattle.question.specs.Sound.{One-width, Allowed}
-use Rattle.question.specs.Tables.{rows-in, table-size, table-rows, tables-in}
-use Rattle.question.proofs.Members.{in-left, in-right, in-split, in-cases}
+use Rattle.question.specs.Layout.{question-in}
+use Rattle.question.specs.Check.{question-refusal, Is-question}
+use Rattle.question.specs.Tables.{rows-in, table-rows, tables-in}
+use Rattle.question.proofs.Members.{in-left, in-right, in-split}
 use Rattle.question.proofs.Front.{length-all-at}
 use Rattle.question.proofs.Answering.{more-rows}
+use Rattle.question.proofs.Accepted.{accepted}
+use Rattle.question.proofs.Written.{writes-question-in}
 use Rattle.containment.specs.OwnTables.{rows-of, own-tables}
 use Rattle.containment.specs.OwnNumbers.{line-eqb, one-table, has-same, firsts, lines-once, table-heads, cells-out, table-out, each-out, tables-out}
 use Rattle.containment.specs.ShownLaws.{Numbers-hold, Numbers-answer, Numbers-few}
@@ -175,3 +180,9 @@ numbers-few v q a =
     let c : own.Comes v t os r = own.comes v t os r i in
     subst (λ (s : Row). length s ≤ 4) (c .row-is) (rw (length-all-at v (c .from .cells)) (a .cells (c .from) (firsts-in line-eqb [] (q .lines) (c .from) (c .is-in)) .few))) in
     omega (arith, length-each v os [] (q .lines) few, left-all os, length-firsts line-eqb [] (q .lines), a .few)
+
+-- the same of a lent question
+pub lent-few : (v : Value) (xs : List ℕ) → question-refusal xs ≡ None → length (tables-out v (question-in xs)) ≤ 29
+lent-few v xs e =
+    let a : Is-question xs = accepted xs e in
+    numbers-few v (question-in xs) (subst (λ (q : Question). Allowed q) (sym (writes-question-in xs (a .0) (a .1))) (a .2))

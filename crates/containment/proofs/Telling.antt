@@ -2,22 +2,28 @@
 use mathlib.Core.Path.{_≡_, refl, sym, ap, ap₂, subst, _∙_}
 use mathlib.Core.Bool.{Bool, true, false, cond}
 use mathlib.Core.List.{List, [], _∷_, _++_}
-use Prim.Native.Nat.{ℕ, _<_}
+use Prim.Native.Nat.{ℕ, _≤_, _<_}
 use native.Mathlib.Omega.{arith}
-use lib.Dec.{eqb}
-use lib.ListN.{length, getD}
+use lib.Dec.{eqb, ltb}
+use lib.ListN.{length, getD, drop}
 use borrow.Author.Tests.{clash}
 use Rattle.question.specs.declared.terms.Term.{Term}
 use Rattle.question.specs.declared.terms.Term.the-variants.{Number, Variable}
 use Rattle.question.specs.Question.{Line, Question, Row, Value, all-at, In, Answers, Within}
 use Rattle.question.specs.Sound.{Allowed}
-use Rattle.question.specs.Layout.{value-in}
+use Rattle.question.specs.Layout.{question-in, value-in}
+use Rattle.question.specs.Check.{question-refusal}
+use Rattle.question.proofs.Accepted.{allowed}
+use Rattle.question.proofs.Parted.{long}
+use Rattle.std.proofs.shelf.Ways.{tells}
+use Rattle.std.specs.declared.option.Option.the-variants.{None}
+use Rattle.containment.specs.declared.answer.Containment.the-variants as answer
 use Rattle.question.specs.Tables.{tables-in}
 use Rattle.containment.specs.Reading.{Reads}
 use Rattle.containment.specs.Search.{can-read}
 use Rattle.containment.specs.OwnTables.{rows-of, own-tables, Shown, naming}
 use Rattle.containment.specs.OwnNumbers.{lines-once, cells-out, table-out, each-out, table-heads, tables-out}
-use Rattle.containment.specs.Answer.{Tells-apart}
+use Rattle.containment.specs.Answer.{within-refusal, within-says, Tells-apart}
 use Rattle.containment.proofs.Readings.{all-at-same, reads-within}
 use Rattle.containment.proofs.Searching.{can-read-reads, reads-can-read}
 use Rattle.containment.proofs.Exactly.{within-reads, within-exact}
@@ -61,3 +67,25 @@ told-apart p q a e more =
         not-answered = λ b. s .not-answered (numbers-answer (naming p q) p (a .one-width) more q (all-at (naming p q) (p .row)) .0 b);
       },
     )
+
+-- nothing is refused
+unrefused : (first second room : List ℕ) → question-refusal first ≡ None → question-refusal second ≡ None → 64 ≤ length room → within-refusal first second room ≡ None
+unrefused first second room a b h =
+    let f : 50 ≤ length first = long first a in
+    let s : 50 ≤ length second = long second b in
+    let cf : ltb (length first) 50 ≡ false = grind (arith, tells) in
+    let cs : ltb (length second) 50 ≡ false = grind (arith, tells) in
+    let cr : ltb (length room) 64 ≡ false = grind (arith, tells) in
+    rw (cf, cs, a, b, cr)
+
+-- what is said where the second can be read into the first, and where it can't
+pub says-within : (first second room : List ℕ) → question-refusal first ≡ None → question-refusal second ≡ None → 64 ≤ length room → can-read (question-in second) (question-in first) ≡ true
+    → within-says (within-refusal first second room) first second room ≡ (answer.Within, room)
+says-within first second room a b h e = rw (unrefused first second room a b h, e)
+
+pub says-apart : (first second room vs : List ℕ) → question-refusal first ≡ None → question-refusal second ≡ None → 64 ≤ length room → can-read (question-in second) (question-in first) ≡ false
+    → ((x : ℕ) → x < 16 → getD vs x 0 ≡ naming (question-in first) (question-in second) x)
+    → within-says (within-refusal first second room) first second room
+      ≡ (answer.Apart (length (tables-out (value-in vs) (question-in first))), tables-out (value-in vs) (question-in first) ++ drop (length (tables-out (value-in vs) (question-in first))) room)
+says-apart first second room vs a b h e f =
+    rw (unrefused first second room a b h, e, names-tables vs (question-in first) (question-in second) (allowed first a) f)

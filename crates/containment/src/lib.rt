@@ -1,13 +1,16 @@
 // Reading one question into another, and a question's own tables: whether one question lies within another.
 mod answer;
+mod compare;
 mod fresh;
 mod laws;
 mod matching;
 mod reading;
 mod search;
+mod shown;
 mod shown_laws;
 
 pub use answer::Containment;
+pub use compare::within;
 pub use laws::any_naming_shows;
 pub use laws::naming_is_least;
 pub use laws::naming_is_new;

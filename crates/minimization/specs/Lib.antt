@@ -1,3 +1,4 @@
 pub mod Choices
 pub mod Least
 pub mod Laws
+pub mod Meant

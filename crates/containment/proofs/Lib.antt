@@ -2,7 +2,11 @@ pub mod Readings
 pub mod Chosen
 pub mod Counting
 pub mod Coding
+pub mod Codes
 pub mod OwnTables
 pub mod Naming
 pub mod Exactly
 pub mod Searching
+pub mod Steps
+pub mod Lent
+pub mod Found

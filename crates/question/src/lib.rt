@@ -20,6 +20,7 @@ pub use parts::line_count;
 pub use parts::line_term;
 pub use parts::lines_of;
 pub use parts::nth_line;
+pub use parts::nth_term;
 pub use parts::row_term;
 pub use parts::row_width;
 pub use parts::table;

@@ -44,7 +44,7 @@ pub fn line_term(line: &[u64], i: usize) -> Term
 }
 
 // The i-th of terms that lie in a part.
-pub(crate) fn nth_term(terms: &[u64], i: usize) -> Term
+pub fn nth_term(terms: &[u64], i: usize) -> Term
     requires { ⌜ 2 * i + 1 < length (now terms) ⌝ ∗ ⌜ term-fits 256 (getD (now terms) (2 * i) 0) (getD (now terms) (2 * i + 1) 0) ≡ true ⌝ }
     ensures { λ r. ⌜ r ≡ term-in (getD (now (terms .entry)) (2 * i) 0) (getD (now (terms .entry)) (2 * i + 1) 0) ⌝ }
 {

@@ -4,3 +4,4 @@ pub mod ByPlaces
 pub mod TwoWays
 pub mod OneMore
 pub mod After
+pub mod Told

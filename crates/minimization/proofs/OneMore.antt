@@ -1,6 +1,6 @@
 -- Lines that lie in numbers, and one line more behind them.
 use mathlib.Core.Path.{_≡_, refl, sym, ap, ap₂, _∙_}
-use mathlib.Core.Bool.{Bool, true, false, _&&_}
+use mathlib.Core.Bool.{true}
 use mathlib.Core.List.{List, [], _∷_, _++_}
 use Prim.Native.Nat.{ℕ, zero, suc, _+_, _*_, _-_, _≤_, _<_}
 use native.Mathlib.Omega.{arith}
@@ -37,10 +37,6 @@ lines-in-last zero xs = refl
 lines-in-last (suc n) xs =
     let d : 10 * suc n ≡ 10 + 10 * n = omega arith in
     rw (d, ← drop-drop (10 * n) 10 xs) (ap (λ (ls : List Line). line-in xs ∷ ls) (lines-in-last n (drop 10 xs)))
-
-and-assoc : (a b c : Bool) → (a && (b && c)) ≡ ((a && b) && c)
-and-assoc true b c = refl
-and-assoc false b c = refl
 
 lines-fit-last : (limit n : ℕ) (xs : List ℕ) → lines-fit limit n xs ≡ true → line-fits limit (drop (10 * n) xs) ≡ true → lines-fit limit (suc n) xs ≡ true
 unfolding lines-fit

@@ -2,6 +2,8 @@
 mod choose;
 mod chosen;
 mod laws;
+mod reply;
+mod shorten;
 mod test;
 
 pub use choose::first_choice;
@@ -12,4 +14,6 @@ pub use laws::least_has_the_fewest_lines;
 pub use laws::least_is_first_by_places;
 pub use laws::least_is_least;
 pub use laws::two_least_choices_and_ours;
+pub use reply::Least;
+pub use shorten::least;
 pub use test::Test;

@@ -159,7 +159,7 @@ first-least {before = before} f c (Rising.and-one {a = b} {xs = cs} o r) e d i t
     (λ u e′. in-head (λ x. f x ≡ true → (c ≡ x) ⊎ before c x) (λ g. absurd (clash (sym u ∙ g))) (λ j. first-least f c r e′ d j) i t) e
 
 -- a program's steps: with the list's first or without it, and the ends
-first-join : {A : Type 0} (f : A → Bool) (cs ds : List A) → first-right f (cs ++ ds) ≡ orOther (first-right f cs) (first-right f ds)
+pub first-join : {A : Type 0} (f : A → Bool) (cs ds : List A) → first-right f (cs ++ ds) ≡ orOther (first-right f cs) (first-right f ds)
 unfolding first-right
 first-join f [] ds = refl
 first-join f (c ∷ cs) ds = go (f c) (first-join f cs ds)

@@ -49,12 +49,19 @@ unfolding choices
 none-at-zero q sq zero h = λ c m e. in-head (λ d. says-same q d ≡ true → ⊥) (λ t. let k = one-in (q .lines) (sound-parts q sq .lines) in elim (into-at (k .1) (same-reads q [] t .lines)) [ ]) (λ k. elim k [ ]) m e
 none-at-zero q sq (suc j) h = absurd (omega arith)
 
+-- a choice is found
+pub some-choice : (q : Question) → sound q ≡ true → by-size (says-same q) (q .lines) (length (q .lines)) 1 ≡ None → ⊥
+some-choice q sq e =
+    let r : Result (says-same q) (q .lines) (1 + length (q .lines)) None
+    = subst (Result (says-same q) (q .lines) (1 + length (q .lines))) e (size-is (says-same q) (q .lines) (length (q .lines)) 1 (none-at-zero q sq)) in
+    r (length (q .lines)) (omega arith) (q .lines) (part-choice (part-all (q .lines))) (reads-same q (q .lines) (reads-itself q))
+
 pub got : (q : Question) → sound q ≡ true → Got q
 unfolding least
 got q sq = go (by-size (says-same q) (q .lines) (length (q .lines)) 1) refl (size-is (says-same q) (q .lines) (length (q .lines)) 1 (none-at-zero q sq))
   where
     go : (o : Option (List Line)) → by-size (says-same q) (q .lines) (length (q .lines)) 1 ≡ o → Result (says-same q) (q .lines) (1 + length (q .lines)) o → Got q
-    go None e r = absurd (r (length (q .lines)) (omega arith) (q .lines) (part-choice (part-all (q .lines))) (reads-same q (q .lines) (reads-itself q)))
+    go None e r = absurd (some-choice q sq e)
     go (Some c) e r = record { lines = c; is = ap (λ (o : Option (List Line)). valueOr o (q .lines)) e; first = r .0; fewest = r .1 }
 
 -- no question that says the same has fewer lines
@@ -62,7 +69,7 @@ module _ (q : Question) (sq : sound q ≡ true) where
   abbrev found : List Line
   found = got q sq .lines
 
-  found-part : Part-of found (q .lines)
+  pub found-part : Part-of found (q .lines)
   found-part = choice-part (length found) (q .lines) found (first-in (says-same q) (choices (length found) (q .lines)) found (got q sq .first) .0)
 
   found-reads : Reads q (with-lines q found)

@@ -1,0 +1,20 @@
+use mathlib.Core.Path.{_≡_}
+use Prim.Native.Nat.{_+_}
+use Rattle.std.specs.declared.option.Option.the-variants.{None}
+use Rattle.question.specs.Layout.{lines-in}
+use Rattle.minimization.specs.Choices.{choices, first-right}
+use Rattle.minimization.specs.Meant.{meant}
+use Rattle.minimization.proofs.After.{left}
+use Rattle.minimization.proofs.choose.first_two.Given as given
+
+abbrev pub Inv-found : given.InvT-found
+Inv-found g l =
+    let f = g .T·Test .decides (l .test) in
+    let still = left f (l .m) (l .lines) in
+    (l .first ≡ None) × (still (meant (l .none)) 2 (l .a) None ≡ first-right f (choices 2 (lines-in (l .m) (l .lines))))
+
+abbrev pub Inv-loop-b : given.InvT-loop-b
+Inv-loop-b g l =
+    let f = g .T·Test .decides (l .test) in
+    let still = left f (l .m) (l .lines) in
+    (l .first ≡ None) × (still (meant (l .one)) 1 (l .b) (still (meant (l .none)) 2 (l .a + 1) None) ≡ first-right f (choices 2 (lines-in (l .m) (l .lines))))

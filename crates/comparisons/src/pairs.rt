@@ -9,9 +9,19 @@ use question::RefusalDisplay;
 use std::io;
 
 // What is said of two questions, and where they are apart the tables that show it.
-fn show(rt: &LibcRuntime, name: &str, first: &[u64], second: &[u64], size: usize) -> io::Result<()> {
+fn show(
+    rt: &LibcRuntime,
+    name: &str,
+    first: &[u64],
+    second: &[u64],
+    size: usize,
+) -> io::Result<()> {
     let mut all = [7; 64];
-    let room = if size < 64 { &mut all[0..size] } else { &mut all[0..64] };
+    let room = if size < 64 {
+        &mut all[0..size]
+    } else {
+        &mut all[0..64]
+    };
     match within(first, second, room) {
         Containment::Within => println!(rt, "{name}: within"),
         Containment::Refused(refusal) => println!(rt, "{name}: {refusal}"),
@@ -42,7 +52,13 @@ pub fn show_all(rt: &LibcRuntime) -> io::Result<()> {
 
 fn show_worked(rt: &LibcRuntime) -> io::Result<()> {
     let holders = line(row(&[x(0)]), 1, &[x(0), x(3)]);
-    show(rt, "the fourth question and those with a holder", &fourth(), &holders, 64)?;
+    show(
+        rt,
+        "the fourth question and those with a holder",
+        &fourth(),
+        &holders,
+        64,
+    )?;
     show(rt, "the other way round", &holders, &fourth(), 64)?;
     show(rt, "itself", &fourth(), &fourth(), 64)
 }
@@ -67,21 +83,55 @@ fn show_widths(rt: &LibcRuntime) -> io::Result<()> {
     show(rt, "a table with two widths", &narrow, &wide, 64)?;
     show(rt, "rows of different widths", &narrow, &longer, 64)?;
     let empty = line(row(&[]), 3, &[]);
-    show(rt, "an empty row and a line without terms", &empty, &empty, 64)?;
-    let first = line(line(row(&[x(0), x(15)]), 3, &[x(0), x(1), x(2), x(3)]), 3, &[x(4), x(5), x(6), x(7)]);
-    let all = line(line(first, 3, &[x(8), x(9), x(10), x(11)]), 3, &[x(12), x(13), x(14), x(15)]);
-    let crossed = line(line(row(&[x(0), x(1)]), 3, &[x(0), x(2), x(3), x(4)]), 3, &[x(5), x(6), x(7), x(1)]);
+    show(
+        rt,
+        "an empty row and a line without terms",
+        &empty,
+        &empty,
+        64,
+    )?;
+    let first = line(
+        line(row(&[x(0), x(15)]), 3, &[x(0), x(1), x(2), x(3)]),
+        3,
+        &[x(4), x(5), x(6), x(7)],
+    );
+    let all = line(
+        line(first, 3, &[x(8), x(9), x(10), x(11)]),
+        3,
+        &[x(12), x(13), x(14), x(15)],
+    );
+    let crossed = line(
+        line(row(&[x(0), x(1)]), 3, &[x(0), x(2), x(3), x(4)]),
+        3,
+        &[x(5), x(6), x(7), x(1)],
+    );
     show(rt, "sixteen variables and eight", &all, &crossed, 64)?;
     show(rt, "eight variables and sixteen", &crossed, &all, 64)?;
-    let turned = line(line(row(&[x(1), x(0)]), 3, &[x(0), x(2), x(3), x(4)]), 3, &[x(5), x(6), x(7), x(1)]);
-    show(rt, "sixteen variables and the row turned", &all, &turned, 64)
+    let turned = line(
+        line(row(&[x(1), x(0)]), 3, &[x(0), x(2), x(3), x(4)]),
+        3,
+        &[x(5), x(6), x(7), x(1)],
+    );
+    show(
+        rt,
+        "sixteen variables and the row turned",
+        &all,
+        &turned,
+        64,
+    )
 }
 
 fn show_refusals(rt: &LibcRuntime) -> io::Result<()> {
     let good = fourth();
     let bad = row(&[x(0)]);
     show(rt, "the first cut short", &good[0..49], &good, 64)?;
-    show(rt, "the second cut short, and the first none", &bad, &good[0..10], 64)?;
+    show(
+        rt,
+        "the second cut short, and the first none",
+        &bad,
+        &good[0..10],
+        64,
+    )?;
     show(rt, "the first none", &bad, &good, 64)?;
     show(rt, "the second none, and no room", &good, &bad, 3)?;
     show(rt, "63 numbers of room", &good, &good, 63)

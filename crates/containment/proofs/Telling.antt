@@ -86,6 +86,6 @@ says-within first second room a b h e = rw (unrefused first second room a b h, e
 pub says-apart : (first second room vs : List ℕ) → question-refusal first ≡ None → question-refusal second ≡ None → 64 ≤ length room → can-read (question-in second) (question-in first) ≡ false
     → ((x : ℕ) → x < 16 → getD vs x 0 ≡ naming (question-in first) (question-in second) x)
     → within-says (within-refusal first second room) first second room
-      ≡ (answer.Apart (length (tables-out (value-in vs) (question-in first))), tables-out (value-in vs) (question-in first) ++ drop (length (tables-out (value-in vs) (question-in first))) room)
+    ≡ (answer.Apart (length (tables-out (value-in vs) (question-in first))), tables-out (value-in vs) (question-in first) ++ drop (length (tables-out (value-in vs) (question-in first))) room)
 says-apart first second room vs a b h e f =
     rw (unrefused first second room a b h, e, names-tables vs (question-in first) (question-in second) (allowed first a) f)

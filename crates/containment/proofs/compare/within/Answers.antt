@@ -37,5 +37,5 @@ returns c =
     record {
       answer = ap answer.Apart n ∙ sym (ap (λ (r : Containment × List ℕ). r .0) says);
       after = w ∙ ap (λ (k : ℕ). tables-out (value-in (c .names .result)) p ++ drop k (c .args .room .now)) n ∙ sym (ap (λ (r : Containment × List ℕ). r .1) says);
-      meant = (apart .0, subst (λ (xs : List ℕ). Tells-apart (tables-in xs) p q) (sym shown) (apart .1))
+      meant = (apart .0, subst (λ (xs : List ℕ). Tells-apart (tables-in xs) p q) (sym shown) (apart .1));
     }

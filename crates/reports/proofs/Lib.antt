@@ -6,3 +6,5 @@ pub mod Righting
 pub mod Ordering
 pub mod Widening
 pub mod Sorting
+pub mod Widths
+pub mod Lent

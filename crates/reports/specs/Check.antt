@@ -37,10 +37,10 @@ same-widths ms (l ∷ ls) = same-width ms l && same-widths ms ls
 unfoldable pub report-part : ℕ → List ℕ → List ℕ
 report-part i reports = take 50 (drop (1 + 50 * i) reports)
 
--- the report agrees with the first n reports on the widths of tables
-unfoldable pub agrees-before : (n : ℕ) (reports report : List ℕ) → Bool
-agrees-before zero reports report = true
-agrees-before (suc n) reports report = agrees-before n reports report && same-widths (question-in (report-part n reports) .lines) (question-in report .lines)
+-- the report agrees on the widths of tables with n reports from the j-th on
+unfoldable pub agrees-before : (reports report : List ℕ) (n j : ℕ) → Bool
+agrees-before reports report zero j = true
+agrees-before reports report (suc n) j = same-widths (question-in (report-part j reports) .lines) (question-in report .lines) && agrees-before reports report n (j + 1)
 
 -- the numbers are a report: a question whose row is made of different variables
 abbrev pub report-fits : List ℕ → Bool
@@ -49,7 +49,7 @@ report-fits report = not (isSome (question-refusal report)) && different (questi
 -- the i-th report is one, and agrees on the widths of tables with the question and the reports before it
 abbrev pub report-good : (question reports : List ℕ) → ℕ → Bool
 report-good question reports i =
-    report-fits (report-part i reports) && (same-widths (question-in question .lines) (question-in (report-part i reports) .lines) && agrees-before i reports (report-part i reports))
+    report-fits (report-part i reports) && (same-widths (question-in question .lines) (question-in (report-part i reports) .lines) && agrees-before reports (report-part i reports) i 0)
 
 -- the least report at fault, of n from the i-th on
 unfoldable pub report-fault : (question reports : List ℕ) (n i : ℕ) → Option ℕ

@@ -8,3 +8,4 @@ pub mod Widening
 pub mod Sorting
 pub mod Widths
 pub mod Lent
+pub mod Asking

@@ -117,7 +117,7 @@ no-fault xs e = go (least-fault (drop 10 xs) (min (getD xs 9 0) 4) 0) (row-good 
     go None false f = let z : _≡_ {A = ℕ} 0 1 = cc f in absurd (omega arith)
     go (Some i) b f = let z : _≡_ {A = ℕ} 0 1 = cc f in absurd (omega arith)
 
-none-mapped : {A B : Type 0} (f : A → B) (o : Option A) → mapped f o ≡ None → o ≡ None
+pub none-mapped : {A B : Type 0} (f : A → B) (o : Option A) → mapped f o ≡ None → o ≡ None
 none-mapped f None e = refl
 none-mapped f (Some a) e = let z : _≡_ {A = ℕ} 0 1 = cc e in absurd (omega arith)
 

@@ -26,7 +26,7 @@ line-there : (l : Line) (rest : List ℕ) → Writes-line (line-out l ++ rest) l
 unfolding line-out
 line-there l rest = record { table = refl; count = refl; cells = terms-there 8 (l .cells) rest }
 
-lines-there : (ls : List Line) (rest : List ℕ) → ((l : Line) → In l ls → length (l .cells) ≤ 4) → Writes-lines (lines-out ls ++ rest) ls
+pub lines-there : (ls : List Line) (rest : List ℕ) → ((l : Line) → In l ls → length (l .cells) ≤ 4) → Writes-lines (lines-out ls ++ rest) ls
 unfolding lines-out
 lines-there [] rest f = Writes-lines.none-left
 lines-there (l ∷ ls) rest f =

@@ -51,7 +51,7 @@ two-and-room a b (x ∷ []) ys h = absurd (omega arith)
 two-and-room a b (x ∷ y ∷ zs) ys h = let d : drop 8 zs ≡ [] = drop-all 8 zs (omega arith) in rw (d, append-nil ys)
 
 -- one line more
-lines-out-append : (ls ms : List Line) → lines-out (ls ++ ms) ≡ lines-out ls ++ lines-out ms
+pub lines-out-append : (ls ms : List Line) → lines-out (ls ++ ms) ≡ lines-out ls ++ lines-out ms
 unfolding lines-out
 lines-out-append [] ms = refl
 lines-out-append (l ∷ ls) ms = ap (λ (xs : List ℕ). line-out l ++ xs) (lines-out-append ls ms) ∙ sym (append-assoc (line-out l) (lines-out ls) (lines-out ms))

@@ -6,3 +6,6 @@ pub mod Righting
 pub mod Ordering
 pub mod Widening
 pub mod Sorting
+pub mod Widths
+pub mod Lent
+pub mod Asking

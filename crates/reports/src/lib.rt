@@ -1,6 +1,9 @@
 // Reports: questions over them, their expansion, and the widest question over them.
+mod check;
 mod laws;
+mod parts;
 
+pub use check::check_reports;
 pub use laws::expansion_is_correct;
 pub use laws::no_more_uses_than_lines;
 pub use laws::right_is_reading_both_ways;
@@ -9,3 +12,4 @@ pub use laws::still_right_with_more;
 pub use laws::the_widest_decides;
 pub use laws::too_wide_is_exact;
 pub use laws::widest_is_made;
+pub use parts::report_at;

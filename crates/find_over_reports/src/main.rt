@@ -2,6 +2,7 @@
 use question::Refusal;
 use question::RefusalDisplay;
 use question::check_question;
+use reports::check_reports;
 use std::io;
 use std::io::Read;
 use wire::read_request;
@@ -16,13 +17,8 @@ struct Counts {
 // How many reports a request has and how many lines its question, or how it is turned away.
 fn counted(bytes: &[u8]) -> Result<Counts, Refusal> {
     let request = read_request(bytes)?;
+    let reports = check_reports(&request.question, &request.reports)?;
     let lines = check_question(&request.question)?;
-    let reports = request.reports[0].min(8) as usize;
-    for i in 0..reports {
-        let Ok(_) = check_question(&request.reports[1 + 50 * i..51 + 50 * i]) else {
-            return Err(Refusal::NoReport(i as u64));
-        };
-    }
     Ok(Counts { reports, lines })
 }
 

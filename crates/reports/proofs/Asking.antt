@@ -116,8 +116,8 @@ reports-agree question reports w l m p q t =
       | inr a ↦ elim (leb-tells (suc (q .at)) (p .at)) [
         | inl b ↦ sym (good-before question reports (q .at) (p .at) (b .1) (w .good (p .at) (p .below)) m l (q .is-in) (p .is-in) (sym t))
         | inr b ↦
-          let s : q .at ≡ p .at = omega (arith, a .1, b .1) in
-          allowed (report-part (p .at) reports) (good-checked question reports (p .at) (w .good (p .at) (p .below))) .one-width l m (p .is-in) (subst (λ (k : ℕ). In m (question-in (report-part k reports) .lines)) s (q .is-in)) t
+            let s : q .at ≡ p .at = omega (arith, a .1, b .1) in
+            allowed (report-part (p .at) reports) (good-checked question reports (p .at) (w .good (p .at) (p .below))) .one-width l m (p .is-in) (subst (λ (k : ℕ). In m (question-in (report-part k reports) .lines)) s (q .is-in)) t
       ]
     ]
 
@@ -144,7 +144,7 @@ asked question reports e =
       allowed = allowed question (w .checked);
       reports-allowed = report-allowed reports (are-reports question reports e);
       columns = each-at (λ (r : Question). Columns (r .row)) (reports-in reports) no-question (λ k h.
-      let b : k < getD reports 0 0 = omega (arith, length-reports-in reports) in
-      rw (report-is reports k b) (good-columns question reports k (w .good k b)));
+          let b : k < getD reports 0 0 = omega (arith, length-reports-in reports) in
+          rw (report-is reports k b) (good-columns question reports k (w .good k b)));
       one-width = one-width question reports w;
     }

@@ -154,7 +154,11 @@ fn report_count(reports: &[u64]) -> Result<usize, Refusal>
         return short;
     }
     let n = reports[0] as usize;
-    if reports.len() < 1 + 50 * n { short } else { Ok(n) }
+    if reports.len() < 1 + 50 * n {
+        short
+    } else {
+        Ok(n)
+    }
 }
 
 // How many reports are lent beside a question, or how they are turned away.

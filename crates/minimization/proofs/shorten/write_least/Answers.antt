@@ -1,10 +1,9 @@
 use mathlib.Core.Path.{_≡_, sym, ap, _∙_}
-use mathlib.Core.List.{_++_}
 use Prim.Native.Nat.{_≤_}
 use native.Mathlib.Omega.{arith}
-use lib.ListN.{length, drop}
+use lib.ListN.{length}
 use Rattle.question.specs.Question.{Question}
-use Rattle.question.specs.Layout.{question-in, question-out}
+use Rattle.question.specs.Layout.{question-in}
 use Rattle.question.proofs.Accepted.{checked}
 use Rattle.question.proofs.Decoding.{length-lines-in}
 use Rattle.question.proofs.Fitting.{lines-fit-wider}
@@ -22,7 +21,7 @@ first-of-sizes-requires c κs =
     record {
       asked = c .pre .checked .0;
       lent = (omega (arith, c .lines-of .ensures .long), rw n (lines-fit-wider 16 256 (length (question-in (c .args .question .now) .lines)) (c .lines-of .result .now) (omega arith) (c .lines-of .ensures .fit)));
-      size = few;
+      size = omega (arith, few);
     }
 
 pub unreachable-requires : need.unreachable-requires
@@ -36,5 +35,5 @@ returns c =
     let is : with-lines q (meant (c .in-Some .chosen)) ≡ least q = least-lent q (c .args .count) (c .lines-of .result .now) (meant (c .in-Some .chosen)) (c .pre .checked .1) (c .lines-of .ensures .lines) (c .in-Some .ensures tt) in
     record {
       told = sym (length-lines-in (c .in-Some .chosen .count) (c .in-Some .chosen .lines)) ∙ ap (λ (p : Question). length (p .lines)) is;
-      written = c .write-question .ensures ∙ ap (λ (p : Question). question-out p ++ drop 50 (c .args .out .now)) is;
+      written = rw (← is) (c .write-question .ensures);
     }

@@ -9,3 +9,6 @@ pub mod Sorting
 pub mod Widths
 pub mod Lent
 pub mod Asking
+pub mod Putting
+pub mod Under
+pub mod Uses

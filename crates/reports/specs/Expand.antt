@@ -17,9 +17,13 @@ assign (r ∷ rs) [] d x = d
 assign (Number n ∷ rs) (c ∷ cs) d x = assign rs cs d x
 assign (Variable y ∷ rs) (c ∷ cs) d x = cond (eqb y x) c (assign rs cs d x)
 
--- how a use puts the variables of its report: those of the row as the use says, inner ones as new variables from base on
+-- how a use with such cells puts the variables of a report with such a row: those of the row as the use says, inner ones as new variables from base on
+abbrev pub row-put : (row cells : List Term) (base : ℕ) → ℕ → Term
+row-put row cells base x = assign row cells (Variable (base + x)) x
+
+-- the same for a use of one of the reports
 abbrev pub use-put : (reports : List Question) (base : ℕ) (l : Line) → ℕ → Term
-use-put reports base l x = assign (getD reports (l .table) no-question .row) (l .cells) (Variable (base + x)) x
+use-put reports base l = row-put (getD reports (l .table) no-question .row) (l .cells) base
 
 -- the lines of the report, for one use
 abbrev pub use-lines : (reports : List Question) (base : ℕ) (l : Line) → List Line

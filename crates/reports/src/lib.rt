@@ -1,9 +1,11 @@
 // Reports: questions over them, their expansion, and the widest question over them.
 mod check;
+mod expand;
 mod laws;
 mod parts;
 
 pub use check::check_reports;
+pub use expand::expand_uses;
 pub use laws::expansion_is_correct;
 pub use laws::no_more_uses_than_lines;
 pub use laws::right_is_reading_both_ways;

@@ -6,3 +6,4 @@ pub mod Righting
 pub mod Ordering
 pub mod Widening
 pub mod Sorting
+pub mod Comparing

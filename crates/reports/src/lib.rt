@@ -1,5 +1,6 @@
 // Reports: questions over them, their expansion, and the widest question over them.
 mod laws;
+mod order;
 
 pub use laws::expansion_is_correct;
 pub use laws::no_more_uses_than_lines;
@@ -9,3 +10,4 @@ pub use laws::still_right_with_more;
 pub use laws::the_widest_decides;
 pub use laws::too_wide_is_exact;
 pub use laws::widest_is_made;
+pub use order::line_before;

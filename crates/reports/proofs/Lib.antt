@@ -7,3 +7,5 @@ pub mod Ordering
 pub mod Widening
 pub mod Sorting
 pub mod Comparing
+pub mod Inserting
+pub mod Moving

@@ -3,3 +3,4 @@ pub mod Expand
 pub mod Widest
 pub mod Laws
 pub mod Check
+pub mod Uses

@@ -1,7 +1,11 @@
 // Reports: questions over them, their expansion, and the widest question over them.
+mod keep;
 mod laws;
 mod order;
+mod uses;
 
+pub use keep::keep_use;
+pub use keep::no_uses;
 pub use laws::expansion_is_correct;
 pub use laws::no_more_uses_than_lines;
 pub use laws::right_is_reading_both_ways;
@@ -11,3 +15,4 @@ pub use laws::the_widest_decides;
 pub use laws::too_wide_is_exact;
 pub use laws::widest_is_made;
 pub use order::line_before;
+pub use uses::Uses;

@@ -9,3 +9,4 @@ pub mod Sorting
 pub mod Comparing
 pub mod Inserting
 pub mod Moving
+pub mod Filling

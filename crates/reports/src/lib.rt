@@ -1,6 +1,7 @@
 // Reports: questions over them, their expansion, and the widest question over them.
 mod keep;
 mod laws;
+mod made;
 mod order;
 mod uses;
 
@@ -14,5 +15,6 @@ pub use laws::still_right_with_more;
 pub use laws::the_widest_decides;
 pub use laws::too_wide_is_exact;
 pub use laws::widest_is_made;
+pub use made::use_line;
 pub use order::line_before;
 pub use uses::Uses;

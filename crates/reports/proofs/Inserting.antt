@@ -39,3 +39,51 @@ insert-end l i ls h = rw (drop-all i ls h)
 -- one line more
 pub length-put-in : (l : Line) (k : ℕ) (ls : List Line) → k ≤ length ls → length (take k ls ++ l ∷ drop k ls) ≡ length ls + 1
 length-put-in l k ls h = length-append (take k ls) (l ∷ drop k ls) ∙ omega (arith, length-take-le k ls h, length-drop k ls)
+
+-- there are never fewer
+insert-longer : (l : Line) (ms : List Line) → length ms ≤ length (insert-line l ms)
+unfolding insert-line
+insert-longer l [] = omega arith
+insert-longer l (m ∷ ms) = go (line-less l m) (line-less m l) (insert-longer l ms)
+  where
+    go : (b c : Bool) → length ms ≤ length (insert-line l ms) → length (m ∷ ms) ≤ length (cond b (l ∷ m ∷ ms) (cond c (m ∷ insert-line l ms) (m ∷ ms)))
+    go true c h = omega arith
+    go false true h = omega arith
+    go false false h = omega arith
+
+pub insert-all-longer : (ls ms : List Line) → length ms ≤ length (insert-all ls ms)
+unfolding insert-all
+insert-all-longer [] ms = omega arith
+insert-all-longer (l ∷ ls) ms = let a = insert-longer l ms in let b = insert-all-longer ls (insert-line l ms) in omega arith
+
+pub insert-all-append : (ks ls ms : List Line) → insert-all (ks ++ ls) ms ≡ insert-all ls (insert-all ks ms)
+unfolding insert-all
+insert-all-append [] ls ms = refl
+insert-all-append (k ∷ ks) ls ms = insert-all-append ks ls (insert-line k ms)
+
+-- put in from the first to the last or from the last to the first, the lines are the same
+all-sorted : (ls : List Line) {ms : List Line} → Sorted ms → Sorted (insert-all ls ms)
+unfolding insert-all
+all-sorted [] s = s
+all-sorted (l ∷ ls) s = all-sorted ls (insert-sorted l s)
+
+all-old : (ls ms : List Line) (k : Line) → In k ms → In k (insert-all ls ms)
+unfolding insert-all
+all-old [] ms k a = a
+all-old (l ∷ ls) ms k a = all-old ls (insert-line l ms) k (insert-old l ms k a)
+
+all-new : (ls ms : List Line) (k : Line) → In k ls → In k (insert-all ls ms)
+unfolding insert-all
+all-new [] ms k a = elim a [ ]
+all-new (l ∷ ls) ms k a = in-head (λ x. In x (insert-all ls (insert-line l ms))) (all-old ls (insert-line l ms) l (insert-new l ms)) (λ b. all-new ls (insert-line l ms) k b) a
+
+all-from : (ls ms : List Line) (P : Line → Type 0) → ((k : Line) → In k ls → P k) → ((k : Line) → In k ms → P k) → (k : Line) → In k (insert-all ls ms) → P k
+unfolding insert-all
+all-from [] ms P f g k a = g k a
+all-from (l ∷ ls) ms P f g k a = all-from ls (insert-line l ms) P (λ j b. f j (In.there b)) (λ j b. insert-from l ms P (f l In.here) g j b) k a
+
+pub insert-all-sorts : (ls : List Line) → insert-all ls [] ≡ sort-lines ls
+insert-all-sorts ls =
+    sorted-one (all-sorted ls Rising.none-left) (sort-sorted ls)
+    (λ k a. sort-in ls k (all-from ls [] (λ x. In x ls) (λ j b. b) (λ j b. elim b [ ]) k a))
+    (λ k a. all-new ls [] k (sort-out ls k a))

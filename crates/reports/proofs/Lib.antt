@@ -10,3 +10,4 @@ pub mod Comparing
 pub mod Inserting
 pub mod Moving
 pub mod Filling
+pub mod Gathering

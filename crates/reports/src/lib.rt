@@ -4,6 +4,7 @@ mod laws;
 mod made;
 mod order;
 mod uses;
+mod wide;
 
 pub use keep::keep_use;
 pub use keep::no_uses;

@@ -11,3 +11,4 @@ pub mod Inserting
 pub mod Moving
 pub mod Filling
 pub mod Gathering
+pub mod EachReport

@@ -19,3 +19,4 @@ pub use laws::widest_is_made;
 pub use made::use_line;
 pub use order::line_before;
 pub use uses::Uses;
+pub use wide::widest;

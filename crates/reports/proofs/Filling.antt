@@ -1,5 +1,5 @@
 -- The line that a reading makes: what its codes stand for, one term more, and the whole line, which fits.
-use mathlib.Core.Path.{_≡_, refl, sym, ap, ap₂, subst, _∙_}
+use mathlib.Core.Path.{_≡_, refl, sym, ap, subst, _∙_}
 use mathlib.Core.Bool.{true}
 use mathlib.Core.List.{List, [], _∷_, _++_}
 use Prim.Native.Nat.{ℕ, zero, suc, _+_, _*_, _-_, _≤_, _<_}
@@ -7,10 +7,9 @@ use native.Mathlib.Omega.{arith}
 use lib.ListN.{length, getD, take, drop, set, replicate}
 use borrow.Author.Tests.{lt-ltb, le-ltb}
 use Rattle.std.proofs.shelf.Lists.{append-assoc, take-all, take-at, take-more, drop-more, drop-replicate, length-append, length-take-le, getD-default}
-use Rattle.std.specs.declared.option.Option.the-variants.{Some, None}
 use Rattle.question.specs.declared.terms.Term.{Term}
 use Rattle.question.specs.declared.terms.Term.the-variants.{Number, Variable}
-use Rattle.question.specs.Question.{Line, Question, In}
+use Rattle.question.specs.Question.{Line, In}
 use Rattle.question.specs.Sound.{Term-within, Terms-within}
 use Rattle.question.specs.Layout.{terms-out, line-in, line-out, line-fits, lines-in}
 use Rattle.question.specs.Check.{Writes-line, Writes-lines}
@@ -18,7 +17,7 @@ use Rattle.question.proofs.Front.{front-set}
 use Rattle.question.proofs.Writing.{length-terms-out}
 use Rattle.question.proofs.Written.{within-fits-line, writes-lines-in}
 use Rattle.containment.specs.Reading.{put, all-put}
-use Rattle.containment.specs.Search.{Part, fill, filling}
+use Rattle.containment.specs.Search.{fill, filling}
 use Rattle.containment.specs.Coding.{decode, part-of}
 use Rattle.containment.proofs.Readings.{put-in}
 

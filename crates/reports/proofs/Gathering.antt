@@ -1,7 +1,7 @@
 -- All readings of a report, one after another: each step of going through the lines, and that what they put stays within the limits.
-use mathlib.Core.Path.{_≡_, refl, sym, ap, subst, _∙_}
+use mathlib.Core.Path.{_≡_, refl, ap, subst, _∙_}
 use mathlib.Core.Bool.{Bool, true, false, cond}
-use mathlib.Core.List.{List, [], _∷_, _++_, map}
+use mathlib.Core.List.{List, [], _∷_, map}
 use Prim.Native.Nat.{ℕ, _+_, _≤_, _<_}
 use native.Mathlib.Omega.{arith}
 use lib.Dec.{eqb, lit<}
@@ -14,7 +14,7 @@ use Rattle.question.specs.declared.terms.Term.the-variants.{Number, Variable}
 use Rattle.question.specs.Question.{Line, In}
 use Rattle.question.specs.Sound.{Term-within}
 use Rattle.containment.specs.Search.{term-eqb, Part, nothing, put-one, and-then, match-var, match-term, match-terms, match-line, fill, filling}
-use Rattle.reports.specs.Widest.{on-each, all-lines, all-readings, insert-line}
+use Rattle.reports.specs.Widest.{all-lines, all-readings, insert-line}
 use Rattle.reports.specs.Uses.{insert-all}
 use Rattle.reports.proofs.Inserting.{insert-all-append, insert-all-longer}
 

@@ -13,7 +13,7 @@ use super::uses::Uses;
 use question::nth_line;
 
 // No uses yet.
-pub fn no_uses() -> Uses
+pub(crate) fn no_uses() -> Uses
     ensures { λ r. ⌜ lines-kept r ≡ [] ⌝ }
 {
     Uses {
@@ -60,7 +60,7 @@ fn with_line(uses: &Uses, at: usize, line: &[u64]) -> Uses
 }
 
 // The uses and one more, unless it is one of them; none where there is no room for it.
-pub fn keep_use(uses: Uses, line: &[u64]) -> Option<Uses>
+pub(crate) fn keep_use(uses: Uses, line: &[u64]) -> Option<Uses>
     requires { ⌜ length (now line) ≡ 10 ⌝ ∗ ⌜ line-fits 16 (now line) ≡ true ⌝ }
     ensures { λ r. ⌜ Keeps r (insert-line (line-in (now (line .entry))) (lines-kept uses)) ⌝ }
 {

@@ -6,8 +6,6 @@ mod order;
 mod uses;
 mod wide;
 
-pub use keep::keep_use;
-pub use keep::no_uses;
 pub use laws::expansion_is_correct;
 pub use laws::no_more_uses_than_lines;
 pub use laws::right_is_reading_both_ways;
@@ -16,7 +14,6 @@ pub use laws::still_right_with_more;
 pub use laws::the_widest_decides;
 pub use laws::too_wide_is_exact;
 pub use laws::widest_is_made;
-pub use made::use_line;
 pub use order::line_before;
 pub use uses::Uses;
 pub use wide::widest;

@@ -53,7 +53,7 @@ fn numbers_of(term: Term) -> (u64, u64)
 }
 
 // The line of the t-th report whose cells are the report's row, as a reading puts it.
-pub fn use_line(t: u64, report: &[u64], reading: Reading) -> [u64; 10]
+pub(crate) fn use_line(t: u64, report: &[u64], reading: Reading) -> [u64; 10]
     requires checked { ⌜ question-refusal (now report) ≡ None ⌝ ∗ ⌜ t < 4294967296 ⌝ }
     requires within { ⌜ ((x : ℕ) → Term-within (filling (part-of (reading .codes)) x)) ⌝ }
     ensures made { λ r. ⌜ r ≡ line-out (use-of t (question-in (now (report .entry))) (part-of (reading .codes))) ⌝ }

@@ -36,5 +36,8 @@ pub fn line_before(line: &[u64], other: &[u64]) -> bool
     if first != second {
         return first < second;
     }
-    numbers_before(&line[2..2 + 2 * width(line)], &other[2..2 + 2 * width(other)])
+    numbers_before(
+        &line[2..2 + 2 * width(line)],
+        &other[2..2 + 2 * width(other)],
+    )
 }

@@ -1,7 +1,7 @@
 use Prim.Native.Nat.{_+_, _*_, _-_}
 use native.Mathlib.Omega.{arith}
 use borrow.Rule.Slice.PartMut.{same-len-mid}
-use Rattle.reports.proofs.Moving.{Put-in, put-in}
+use Rattle.reports.proofs.Moving.{put-in}
 use Rattle.reports.proofs.keep.with_line.Needs as need
 
 pub part-lines-end-2 : need.part-lines-end-2

@@ -1,9 +1,9 @@
-use mathlib.Core.Path.{_≡_, refl, sym, ap, subst, _∙_}
+use mathlib.Core.Path.{_≡_, sym, ap, subst, _∙_}
 use mathlib.Core.List.{List, map}
-use Prim.Native.Nat.{ℕ, _+_, _<_}
+use Prim.Native.Nat.{_+_, _<_}
 use native.Mathlib.Omega.{arith}
 use lib.ListN.{length, drop}
-use Rattle.question.specs.Question.{Line, Question}
+use Rattle.question.specs.Question.{Line}
 use Rattle.question.specs.Layout.{line-in, question-in}
 use Rattle.question.proofs.Fitting.{line-fits-wider}
 use Rattle.question.proofs.Written.{fits-within-cells}
@@ -11,7 +11,6 @@ use Rattle.containment.specs.Search.{Part}
 use Rattle.containment.specs.Coding.{part-of}
 use Rattle.reports.specs.Widest.{use-of, all-lines, all-readings, insert-line}
 use Rattle.reports.specs.Uses.{lines-kept, Keeps, insert-all}
-use Rattle.reports.proofs.Inserting.{insert-all-longer}
 use Rattle.reports.proofs.Filling.{line-back}
 use Rattle.reports.proofs.Gathering.{readings-more, keep-end, keep-past, keep-on, keep-over, keep-none, line-within}
 use Rattle.reports.proofs.wide.+keep_readings.Needs as need

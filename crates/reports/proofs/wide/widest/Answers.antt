@@ -1,9 +1,9 @@
 use mathlib.Core.Path.{_≡_, refl, sym, ap, subst, _∙_}
 use mathlib.Core.List.{List, map}
-use Prim.Native.Nat.{ℕ, _+_, _≤_, _<_}
+use Prim.Native.Nat.{_+_, _≤_, _<_}
 use native.Mathlib.Omega.{arith}
 use lib.ListN.{length, drop}
-use Rattle.question.specs.Question.{Line, Question}
+use Rattle.question.specs.Question.{Line}
 use Rattle.question.specs.Layout.{question-in}
 use Rattle.question.specs.Reports.{questions-in}
 use Rattle.question.proofs.Decoding.{length-lines-in}

@@ -11,4 +11,10 @@ pub mod Lent
 pub mod Asking
 pub mod Putting
 pub mod Under
-pub mod Uses
+pub mod Written
+pub mod Comparing
+pub mod Inserting
+pub mod Moving
+pub mod Filling
+pub mod Gathering
+pub mod EachReport

@@ -1,8 +1,13 @@
 // Reports: questions over them, their expansion, and the widest question over them.
 mod check;
 mod expand;
+mod keep;
 mod laws;
+mod made;
+mod order;
 mod parts;
+mod uses;
+mod wide;
 
 pub use check::check_reports;
 pub use expand::expand_uses;
@@ -14,4 +19,7 @@ pub use laws::still_right_with_more;
 pub use laws::the_widest_decides;
 pub use laws::too_wide_is_exact;
 pub use laws::widest_is_made;
+pub use order::line_before;
 pub use parts::report_at;
+pub use uses::Uses;
+pub use wide::widest;

@@ -7,7 +7,7 @@ use Rattle.std.proofs.shelf.Lists.{length-take, length-drop}
 use Rattle.question.specs.Layout.{line-in, lines-in, question-in}
 use Rattle.question.proofs.Decoding.{length-lines-in}
 use Rattle.reports.specs.Check.{report-part}
-use Rattle.reports.proofs.Uses.{Used, use-next, used-at, lent-use, nothing-yet, one-more, all-written}
+use Rattle.reports.proofs.Written.{Used, use-next, used-at, lent-use, nothing-yet, one-more, all-written}
 use Rattle.reports.proofs.expand.expand_uses.Needs as need
 
 pub loop-k-holds : need.loop-k-holds

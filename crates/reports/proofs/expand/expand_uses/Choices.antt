@@ -1,5 +1,5 @@
 use Rattle.question.specs.Layout.{lines-in}
-use Rattle.reports.proofs.Uses.{So-far}
+use Rattle.reports.proofs.Written.{So-far}
 use Rattle.reports.proofs.expand.expand_uses.Given as given
 
 abbrev pub Inv-loop-k : given.InvT-loop-k

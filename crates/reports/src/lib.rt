@@ -19,7 +19,6 @@ pub use laws::still_right_with_more;
 pub use laws::the_widest_decides;
 pub use laws::too_wide_is_exact;
 pub use laws::widest_is_made;
-pub use order::line_before;
 pub use parts::report_at;
 pub use uses::Uses;
 pub use wide::widest;

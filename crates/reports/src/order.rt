@@ -26,7 +26,7 @@ fn numbers_before(row: &[u64], other: &[u64]) -> bool
 }
 
 // Whether one line comes before another.
-pub fn line_before(line: &[u64], other: &[u64]) -> bool
+pub(crate) fn line_before(line: &[u64], other: &[u64]) -> bool
     requires lent { ⌜ length (now line) ≡ 10 ⌝ ∗ ⌜ length (now other) ≡ 10 ⌝ }
     requires fit { ⌜ line-fits 16 (now line) ≡ true ⌝ ∗ ⌜ line-fits 16 (now other) ≡ true ⌝ }
     ensures { λ r. ⌜ r ≡ line-less (line-in (now (line .entry))) (line-in (now (other .entry))) ⌝ }

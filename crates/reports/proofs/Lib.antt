@@ -12,3 +12,4 @@ pub mod Asking
 pub mod Putting
 pub mod Under
 pub mod Uses
+pub mod Admitted

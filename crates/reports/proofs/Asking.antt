@@ -1,9 +1,9 @@
 -- A question and reports that are not turned away are such as may be asked and used.
-use mathlib.Core.Path.{_≡_, refl, sym, ap, subst, _∙_}
-use mathlib.Core.Bool.{Bool, true, false, _&&_, cond, not}
+use mathlib.Core.Path.{_≡_, refl, sym, subst}
+use mathlib.Core.Bool.{true, false, cond}
 use mathlib.Core.List.{List, [], _∷_, _++_}
-use mathlib.Core.Logic.{_⊎_, inl, inr}
-use Prim.Native.Nat.{ℕ, zero, suc, _+_, _≤_, _<_}
+use mathlib.Core.Logic.{inl, inr}
+use Prim.Native.Nat.{ℕ, zero, suc, _+_, _<_}
 use native.Mathlib.Omega.{arith}
 use lib.Dec.{eqb}
 use lib.ListN.{length, getD}
@@ -13,10 +13,10 @@ use Rattle.std.specs.declared.option.Option.the-variants.{None}
 use Rattle.question.specs.declared.terms.Term.{Term}
 use Rattle.question.specs.declared.terms.Term.the-variants.{Number, Variable}
 use Rattle.question.specs.Question.{Line, Question, In}
-use Rattle.question.specs.Sound.{has, vars, One-width, Allowed}
+use Rattle.question.specs.Sound.{has, vars, One-width}
 use Rattle.question.specs.Layout.{question-in}
 use Rattle.question.specs.Reports.{reports-in}
-use Rattle.question.proofs.Members.{in-split, in-cases, in-has, in-vars}
+use Rattle.question.proofs.Members.{in-split, in-has, in-vars}
 use Rattle.question.proofs.Places.{in-head}
 use Rattle.question.proofs.Accepted.{allowed}
 use Rattle.containment.specs.Order.{Apart}
@@ -45,7 +45,7 @@ columns (Variable x ∷ ts) e =
     }
 
 -- two lists of lines give a table one width
-abbrev Agree : (ms ls : List Line) → Type 0
+abbrev pub Agree : (ms ls : List Line) → Type 0
 Agree ms ls = (m l : Line) → In m ms → In l ls → m .table ≡ l .table → length (m .cells) ≡ length (l .cells)
 
 width-at : (ms : List Line) (l : Line) → same-width ms l ≡ true → (m : Line) → In m ms → m .table ≡ l .table → length (m .cells) ≡ length (l .cells)

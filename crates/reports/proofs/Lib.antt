@@ -18,3 +18,5 @@ pub mod Moving
 pub mod Filling
 pub mod Gathering
 pub mod EachReport
+pub mod Uses
+pub mod Admitted

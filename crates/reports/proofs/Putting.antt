@@ -1,24 +1,22 @@
 -- What a use puts in, turn by turn: a variable by the report's row, the terms of a line, the lines of a report, all uses; and that what is written fits.
-use mathlib.Core.Path.{_≡_, refl, sym, ap, ap₂, subst, _∙_}
-use mathlib.Core.Bool.{Bool, true, false, _&&_, cond}
+use mathlib.Core.Path.{_≡_, refl, sym, ap, _∙_}
+use mathlib.Core.Bool.{false}
 use mathlib.Core.List.{List, [], _∷_, _++_}
-use mathlib.Core.Logic.{_⊎_, inl, inr}
-use Prim.Native.Nat.{ℕ, zero, suc, _+_, _*_, _-_, _≤_, _<_}
+use Prim.Native.Nat.{ℕ, zero, suc, _+_, _*_, _≤_, _<_}
 use native.Mathlib.Omega.{arith}
 use lib.Dec.{eqb}
 use lib.ListN.{length, getD, take, drop, set}
 use borrow.Author.Tests.{eq-eqb}
-use borrow.Rule.Slice.PartMut.{putMid}
 use Rattle.std.proofs.shelf.Ways.{tells}
-use Rattle.std.proofs.shelf.Lists.{append-assoc, append-nil, drop-all, drop-more, take-more, length-append, length-take-le}
+use Rattle.std.proofs.shelf.Lists.{append-assoc, drop-all, drop-more, take-more, length-append, length-take-le}
 use Rattle.question.specs.declared.terms.Term.{Term}
 use Rattle.question.specs.declared.terms.Term.the-variants.{Number, Variable}
-use Rattle.question.specs.Question.{Line, Question, In}
-use Rattle.question.specs.Layout.{terms-out, padded}
+use Rattle.question.specs.Question.{Line}
+use Rattle.question.specs.Layout.{terms-out}
 use Rattle.question.proofs.Writing.{length-terms-out}
-use Rattle.question.proofs.Front.{front-put, front-set}
+use Rattle.question.proofs.Front.{front-set}
 use Rattle.containment.specs.Reading.{put, all-put, line-put, put-lines}
-use Rattle.containment.proofs.Readings.{length-put, length-put-lines}
+use Rattle.containment.proofs.Readings.{length-put}
 use Rattle.reports.specs.Expand.{assign}
 
 -- the row of the report and the cells of the use, place by place

@@ -1,11 +1,10 @@
 -- Lines within limits fit where they are written, and the lines of uses are within 256 variables.
-use mathlib.Core.Path.{_≡_, refl, sym, ap, subst, _∙_}
-use mathlib.Core.Bool.{true, _&&_}
+use mathlib.Core.Path.{_≡_, refl, sym, subst}
+use mathlib.Core.Bool.{true}
 use mathlib.Core.List.{List, [], _∷_, _++_}
-use mathlib.Core.Logic.{_⊎_, inl, inr}
-use Prim.Native.Nat.{ℕ, zero, suc, _+_, _*_, _-_, _≤_, _<_}
+use mathlib.Core.Logic.{inl, inr}
+use Prim.Native.Nat.{ℕ, _+_, _*_, _-_, _≤_, _<_}
 use native.Mathlib.Omega.{arith}
-use lib.Dec.{leb}
 use lib.ListN.{length, getD, drop, replicate}
 use Rattle.std.proofs.shelf.Ways.{tells}
 use Rattle.std.proofs.shelf.Tests.{and-from, lt-ltb, le-leb}
@@ -18,8 +17,8 @@ use Rattle.question.specs.Layout.{term-fits, terms-fit, line-fits, lines-fit, l
 use Rattle.question.proofs.Members.{in-split}
 use Rattle.question.proofs.Writing.{length-line-out}
 use Rattle.question.proofs.Written.{writes-lines-in}
-use Rattle.question.proofs.Back.{lines-there, length-lines}
-use Rattle.containment.specs.Reading.{put, all-put, line-put, put-lines}
+use Rattle.question.proofs.Back.{lines-there}
+use Rattle.containment.specs.Reading.{put, line-put}
 use Rattle.containment.proofs.Readings.{length-put, put-in, put-lines-each}
 use Rattle.reports.specs.Reports.{no-question}
 use Rattle.reports.specs.Expand.{assign, row-put, use-lines, expand-lines}

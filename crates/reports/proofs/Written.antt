@@ -2,18 +2,14 @@
 use mathlib.Core.Path.{_≡_, refl, sym, ap, subst, _∙_}
 use mathlib.Core.Bool.{true}
 use mathlib.Core.List.{List, [], _∷_, _++_}
-use Prim.Native.Nat.{ℕ, zero, suc, _+_, _*_, _-_, _≤_, _<_}
+use Prim.Native.Nat.{ℕ, suc, _+_, _*_, _≤_, _<_}
 use native.Mathlib.Omega.{arith}
 use lib.ListN.{length, getD, take, drop}
 use borrow.Rule.Slice.PartMut.{putMid}
 use Rattle.std.proofs.shelf.Lists.{append-assoc, append-nil, drop-more, take-more, take-all, length-append, length-take-le}
-use Rattle.std.specs.declared.option.Option.the-variants.{None}
-use Rattle.question.specs.declared.terms.Term.{Term}
 use Rattle.question.specs.Question.{Line, Question, In}
-use Rattle.question.specs.Sound.{Term-within}
 use Rattle.question.specs.Layout.{line-in, line-fits, lines-in, lines-fit, line-part, question-in, lines-out}
 use Rattle.question.specs.Reports.{reports-in}
-use Rattle.question.specs.Check.{question-refusal}
 use Rattle.question.proofs.Members.{in-at}
 use Rattle.question.proofs.Fitting.{lines-fit-at}
 use Rattle.question.proofs.Decoding.{length-lines-in, lines-in-next}

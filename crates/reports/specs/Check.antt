@@ -15,8 +15,9 @@ use Rattle.question.specs.declared.refusals.Refusal.the-variants.{CutShort, NoR
 use Rattle.question.specs.Question.{Line, Question, In}
 use Rattle.question.specs.Sound.{has, vars, One-width, Allowed}
 use Rattle.question.specs.Layout.{question-in}
-use Rattle.question.specs.Check.{cut-short, question-refusal}
+use Rattle.question.specs.Check.{cut-short, question-refusal, Writes}
 use Rattle.containment.specs.Order.{Apart}
+use Rattle.reports.specs.Reports.{no-question}
 
 -- the terms are different variables
 unfoldable pub different : List Term → Bool
@@ -90,3 +91,13 @@ pub record Asked (q : Question) (rs : List Question) : Type 0 where
   pub reports-allowed : (r : Question) → In r rs → Allowed r
   pub columns : (r : Question) → In r rs → Columns (r .row)
   pub one-width : One-width (q .lines ++ report-lines rs)
+
+-- the numbers write the reports down: their count, then fifty numbers for each
+pub record Writes-reports (xs : List ℕ) (rs : List Question) : Type 0 where
+  pub count : getD xs 0 0 ≡ length rs
+  pub long : 1 + 50 * length rs ≤ length xs
+  pub each : (i : ℕ) → i < length rs → Writes (report-part i xs) (getD rs i no-question)
+
+-- the numbers are a question and reports that it may be asked of
+abbrev pub Is-asked : (question reports : List ℕ) → Type 0
+Is-asked question reports = (q : Question) × (rs : List Question) × Writes question q × Writes-reports reports rs × Asked q rs

@@ -9,7 +9,7 @@ ghost use Rattle.question.specs.Sound.{has, vars};
 ghost use Rattle.question.specs.Layout.{line-in, question-in};
 ghost use Rattle.question.specs.Reports.{reports-in};
 ghost use Rattle.question.specs.Check.{question-refusal};
-ghost use Rattle.reports.specs.Check.{different, same-width, same-widths, report-part, agrees-before, report-fits, report-good, report-fault, reports-short, reports-refusal, Are-reports, Asked};
+ghost use Rattle.reports.specs.Check.{different, same-width, same-widths, report-part, agrees-before, report-fits, report-good, report-fault, reports-short, reports-refusal, Are-reports, Asked, Is-asked};
 use super::parts::report_at;
 use question::Refusal;
 use question::Term;
@@ -166,7 +166,9 @@ pub fn check_reports(question: &[u64], reports: &[u64]) -> Result<usize, Refusal
     ensures told { λ r. ⌜ Cases r
         (λ n. (reports-refusal (now (question .entry)) (now (reports .entry)) ≡ None) × (n ≡ length (reports-in (now (reports .entry)))))
         (λ e. reports-refusal (now (question .entry)) (now (reports .entry)) ≡ Some e) ⌝ }
-    ensures meant { λ r. ⌜ made r (λ _. Asked (question-in (now (question .entry))) (reports-in (now (reports .entry)))) ⌝ }
+    ensures meant { λ r. ⌜ Cases r
+        (λ _. Asked (question-in (now (question .entry))) (reports-in (now (reports .entry))))
+        (λ _. (Is-asked (now (question .entry)) (now (reports .entry)) → ⊥)) ⌝ }
     ensures kept { λ r. ⌜ made r (λ _. Are-reports (now (reports .entry))) ⌝ }
 {
     if question.len() < 50 {

@@ -1,4 +1,3 @@
-use mathlib.Core.Path.{_≡_, sym, _∙_}
 use native.Mathlib.Omega.{arith}
 use Rattle.reports.proofs.Widths.{before-next, before-stop, before-end}
 use Rattle.reports.proofs.check.agrees_before.Needs as need

@@ -1,10 +1,9 @@
 use mathlib.Core.Path.{_≡_, ap, _∙_}
-use mathlib.Core.List.{List}
-use Prim.Native.Nat.{ℕ, _+_, _*_, _≤_, _<_}
+use Prim.Native.Nat.{ℕ}
 use lib.ListN.{length}
 use native.Mathlib.Omega.{arith}
 use Rattle.std.proofs.shelf.Lists.{length-take, length-drop}
-use Rattle.question.specs.Layout.{line-in, lines-in, question-in}
+use Rattle.question.specs.Layout.{line-in, lines-in}
 use Rattle.question.proofs.Decoding.{length-lines-in}
 use Rattle.reports.specs.Check.{report-part}
 use Rattle.reports.proofs.Written.{Used, use-next, used-at, lent-use, nothing-yet, one-more, all-written}
@@ -29,7 +28,7 @@ put-use-requires c κs =
     let u : Used (c .args .reports .now) (c .nth-line-used .result .now) = used-at (c .args .reports .now) (c .args .uses .now) (c .nth-line-used .result .now) (c .args .n) (c .loop-k .k) (c .pre .lent .1) (c .pre .fit) (omega arith) (c .nth-line-used .ensures .part) in
     let r : c .report-at-report .result .now ≡ report-part (line-in (c .nth-line-used .result .now) .table) (c .args .reports .now) = c .report-at-report .ensures .part ∙ ap (λ (t : ℕ). report-part t (c .args .reports .now)) (c .table .ensures) in
     record {
-      fits = lent-use (c .args .reports .now) (c .nth-line-used .result .now) (c .report-at-report .result .now) (16 + 16 * c .loop-k .k) (c .pre .checked) u (c .nth-line-used .ensures .ten) r (omega arith);
+      fits = lent-use (c .args .reports .now) (c .nth-line-used .result .now) (c .report-at-report .result .now) _ (c .pre .checked) u (c .nth-line-used .ensures .ten) r (omega arith);
       room = simp (length-take, length-drop) (omega (arith, c .line-count .ensures .0, c .line-count .ensures .1, c .loop-k .inv .few, c .loop-k .kept .out));
     }
 

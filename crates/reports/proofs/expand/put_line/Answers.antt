@@ -1,7 +1,5 @@
-use mathlib.Core.Path.{_≡_, ap, _∙_, sym}
-use mathlib.Core.List.{List, _∷_}
-use Prim.Native.Nat.{ℕ, _*_, _-_}
-use lib.ListN.{length, getD, take, drop}
+use mathlib.Core.Path.{_≡_, _∙_}
+use lib.ListN.{length, getD, drop}
 use native.Mathlib.Omega.{arith}
 use Rattle.question.specs.Layout.{line-out, line-in}
 use Rattle.question.proofs.Fitting.{line-fits-cells, terms-fit-take}

@@ -88,7 +88,14 @@ fn put_line(report: &[u64], used: &[u64], base: u8, line: &[u64], out: &mut [u64
 {
     out[0] = line[0];
     out[1] = line[1];
-    put_terms(report, used, base, &line[2..10], width(line), &mut out[2..10]);
+    put_terms(
+        report,
+        used,
+        base,
+        &line[2..10],
+        width(line),
+        &mut out[2..10],
+    );
 }
 
 // Writes the lines of the report, as the use puts them.
@@ -98,7 +105,13 @@ fn put_use(report: &[u64], used: &[u64], base: u8, out: &mut [u64])
     ensures { λ _. ⌜ now (out .exit) ≡ lines-out (put-lines (lent-put (now (report .entry)) (now (used .entry)) base) (question-in (now (report .entry)) .lines)) ⌝ }
 {
     for i in 0..line_count(report) {
-        put_line(report, used, base, line_at(report, i), &mut out[10 * i..10 * i + 10]);
+        put_line(
+            report,
+            used,
+            base,
+            line_at(report, i),
+            &mut out[10 * i..10 * i + 10],
+        );
     }
 }
 
@@ -117,7 +130,12 @@ pub fn expand_uses(reports: &[u64], uses: &[u64], n: usize, out: &mut [u64]) -> 
         let used = nth_line(uses, k);
         let report = report_at(reports, table(used) as usize);
         let more = count + line_count(report);
-        put_use(report, used, 16 + 16 * k as u8, &mut out[10 * count..10 * more]);
+        put_use(
+            report,
+            used,
+            16 + 16 * k as u8,
+            &mut out[10 * count..10 * more],
+        );
         count = more;
     }
     count

@@ -37,10 +37,13 @@ use Rattle.rewriting.specs.Found.{Found, First, over-lines, will-do, choose, f
 use Rattle.rewriting.specs.Answer.{find-refusal, told-by, left-by, Stands, Meant}
 use Rattle.rewriting.proofs.Finding.{find-allowed}
 
--- the reports as they are counted
+-- the reports as they are counted, and the widest question over them
 pub counted : (n : ℕ) (reports : List ℕ) → n ≡ length (reports-in reports) → questions-in n (drop 1 reports) ≡ reports-in reports
 unfolding reports-in
 counted n reports e = ap (λ (k : ℕ). questions-in k (drop 1 reports)) (e ∙ length-reports-in reports)
+
+pub kept-widest : (n : ℕ) (reports : List ℕ) (q : Question) (ls : List Line) → n ≡ length (reports-in reports) → ls ≡ widest (questions-in n (drop 1 reports)) q .lines → ls ≡ widest (reports-in reports) q .lines
+kept-widest n reports q ls e h = h ∙ ap (λ (rs : List Question). widest rs q .lines) (counted n reports e)
 
 -- each line of the widest question is a use that a report has on the question's own lines
 pub own-uses : (reports : List ℕ) (q : Question) (ls : List Line) → Are-reports reports → ls ≡ widest (reports-in reports) q .lines → (l : Line) → In l ls → Own-use (reports-in reports) q l
@@ -150,6 +153,7 @@ stands question reports more p e within is =
     let back : question-in out ≡ p = reads-back p (record { row = b .row .few; lines = b .few; cells = λ l i. b .cells l i .few }) more in
     record {
       asked = a;
+      reads-back = is ∙ ap Some (sym back);
       found = rw back found;
       first = rw back first;
       is-question = accepted out (written-accepted p b more);

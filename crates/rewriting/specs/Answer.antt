@@ -71,9 +71,10 @@ find-says question reports out = answer-of (find-refusal question reports out) (
 unfoldable pub find-leaves : (question reports out : List ℕ) → List ℕ
 find-leaves question reports out = left-after (find-refusal question reports out) (find (reports-in reports) 16 16 (question-in question)) out
 
--- in out there is a question that may be asked and has n lines; over the reports it is right with as few lines as any, and it is the first such choice
+-- in out there is a question that may be asked and has n lines, the one that is found as that is defined; over the reports it is right with as few lines as any, and it is the first such choice
 pub record Stands (question reports out : List ℕ) (n : ℕ) : Type 0 where
   pub asked : Asked (question-in question) (reports-in reports)
+  pub reads-back : find (reports-in reports) 16 16 (question-in question) ≡ Some (question-in out)
   pub found : Found (reports-in reports) (question-in question) (Some (question-in out))
   pub first : First (reports-in reports) (question-in question) (question-in out)
   pub is-question : Is-question out

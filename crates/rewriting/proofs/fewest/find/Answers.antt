@@ -17,7 +17,7 @@ use Rattle.reports.specs.Uses.{lines-kept}
 use Rattle.reports.proofs.Lent.{length-reports-in, passed}
 use Rattle.rewriting.specs.Found.{find}
 use Rattle.rewriting.specs.Answer.{find-refusal, find-says, find-leaves, Meant}
-use Rattle.rewriting.proofs.Telling.{counted, refused-first, refused-room, refused-wide, refused-not, not-wide, meant-found}
+use Rattle.rewriting.proofs.Telling.{counted, kept-widest, refused-first, refused-room, refused-wide, refused-not, not-wide, meant-found}
 use Rattle.rewriting.proofs.fewest.find.Needs as need
 
 pub returns-in-Err : need.returns-in-Err
@@ -55,7 +55,7 @@ write-fewest-requires c κs =
     let told = c .in-Ok .ensures tt .told in
     record {
       checked = (passed (c .args .question .now) reports (told .0) .checked, c .in-Ok .ensures tt .kept);
-      wide = c .in-Ok-widest .ensures tt .told ∙ ap (λ (rs : List Question). widest rs (question-in (c .args .question .now)) .lines) (counted (c .in-Ok .count) reports (told .1));
+      wide = kept-widest (c .in-Ok .count) reports (question-in (c .args .question .now)) (lines-kept (c .in-Ok-widest .uses)) (told .1) (c .in-Ok-widest .ensures tt .told);
       room = c .if-out-lt50 .left;
     }
 
@@ -69,7 +69,7 @@ returns-in-Ok-widest c =
     let uses = c .in-Ok-widest .uses in
     let q : Question = question-in question in
     let ws : List Line = widest (reports-in reports) q .lines in
-    let is : lines-kept uses ≡ ws = c .in-Ok-widest .ensures tt .told ∙ ap (λ (rs : List Question). widest rs q .lines) (counted (c .in-Ok .count) reports (told .1)) in
+    let is : lines-kept uses ≡ ws = kept-widest (c .in-Ok .count) reports q (lines-kept uses) (told .1) (c .in-Ok-widest .ensures tt .told) in
     let few : length ws ≤ 32 = omega (arith, ap length is, length-lines-in (uses .count) (uses .lines), uses .few) in
     let e : find-refusal question reports out ≡ None = refused-not question reports out (told .0) (c .if-out-lt50 .left) few in
     record {

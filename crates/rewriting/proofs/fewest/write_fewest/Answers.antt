@@ -19,7 +19,7 @@ first-of-sizes-requires c κs =
       asked = c .pre .checked;
       lent = (omega (arith, uses .few, uses .room), uses .fit);
       taken = own-uses (c .args .reports .now) (question-in (c .args .question .now)) (lines-kept uses) (c .pre .checked .1) (c .pre .wide);
-      size = c .line-count-most .ensures .1;
+      size = omega (arith, c .line-count-most .ensures .1);
     }
 
 pub write-question-requires : need.write-question-requires

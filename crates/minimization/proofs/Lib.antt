@@ -5,3 +5,4 @@ pub mod TwoWays
 pub mod OneMore
 pub mod After
 pub mod Told
+pub mod Taken

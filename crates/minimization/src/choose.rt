@@ -5,6 +5,7 @@ ghost use mathlib.Core.List.{[], _∷_, _++_};
 ghost use Prim.Native.Nat.{_+_, _*_, _≤_, _<_};
 ghost use lib.ListN.{length};
 ghost use Rattle.std.specs.Options.{mapped};
+ghost use Rattle.question.specs.Question.{Line, In};
 ghost use Rattle.question.specs.Layout.{lines-in, lines-fit};
 ghost use Rattle.minimization.specs.Choices.{choices, first-right, by-size};
 ghost use Rattle.minimization.specs.Meant.{meant, nth};
@@ -24,7 +25,7 @@ fn none_chosen() -> Chosen
 
 // The choice and the i-th of m lines.
 fn with_nth(chosen: Chosen, lines: &[u64], m: usize, i: usize) -> Chosen
-    requires lent { ⌜ 10 * m ≤ length (now lines) ⌝ ∗ ⌜ lines-fit 256 m (now lines) ≡ true ⌝ }
+    requires lent { ⌜ 10 * m ≤ length (now lines) ⌝ ∗ ⌜ lines-fit 16 m (now lines) ≡ true ⌝ }
     requires within { ⌜ i < m ⌝ ∗ ⌜ chosen .count < 4 ⌝ }
     ensures { λ r. ⌜ meant r ≡ meant chosen ++ nth (lines-in m (now (lines .entry))) i ∷ [] ⌝ ∗ ⌜ r .count ≡ chosen .count + 1 ⌝ }
 {
@@ -39,7 +40,8 @@ fn with_nth(chosen: Chosen, lines: &[u64], m: usize, i: usize) -> Chosen
 
 // Whether a choice passes.
 fn passes<T: Test>(test: &T, chosen: &Chosen) -> bool
-    requires { ⌜ ready (now test) ⌝ }
+    requires asked { ⌜ ready (now test) ⌝ }
+    requires taken { ⌜ ((l : Line) → In l (meant (now chosen)) → takes (now test) l) ⌝ }
     ensures { λ r. ⌜ r ≡ decides (now (test .entry)) (meant (now (chosen .entry))) ⌝ }
 {
     test.passes(&chosen.lines, chosen.count)
@@ -48,7 +50,8 @@ fn passes<T: Test>(test: &T, chosen: &Chosen) -> bool
 // The first line that passes.
 fn first_one<T: Test>(test: &T, lines: &[u64], m: usize) -> Option<Chosen>
     requires asked { ⌜ ready (now test) ⌝ }
-    requires lent { ⌜ 10 * m ≤ length (now lines) ⌝ ∗ ⌜ lines-fit 256 m (now lines) ≡ true ⌝ }
+    requires lent { ⌜ 10 * m ≤ length (now lines) ⌝ ∗ ⌜ lines-fit 16 m (now lines) ≡ true ⌝ }
+    requires taken { ⌜ ((l : Line) → In l (lines-in m (now lines)) → takes (now test) l) ⌝ }
     ensures { λ r. ⌜ mapped meant r ≡ first-right (decides (now (test .entry))) (choices 1 (lines-in m (now (lines .entry)))) ⌝ }
 {
     let none = none_chosen();
@@ -64,7 +67,8 @@ fn first_one<T: Test>(test: &T, lines: &[u64], m: usize) -> Option<Chosen>
 // The first two lines that pass.
 fn first_two<T: Test>(test: &T, lines: &[u64], m: usize) -> Option<Chosen>
     requires asked { ⌜ ready (now test) ⌝ }
-    requires lent { ⌜ 10 * m ≤ length (now lines) ⌝ ∗ ⌜ lines-fit 256 m (now lines) ≡ true ⌝ }
+    requires lent { ⌜ 10 * m ≤ length (now lines) ⌝ ∗ ⌜ lines-fit 16 m (now lines) ≡ true ⌝ }
+    requires taken { ⌜ ((l : Line) → In l (lines-in m (now lines)) → takes (now test) l) ⌝ }
     ensures { λ r. ⌜ mapped meant r ≡ first-right (decides (now (test .entry))) (choices 2 (lines-in m (now (lines .entry)))) ⌝ }
 {
     let none = none_chosen();
@@ -85,7 +89,8 @@ fn first_two<T: Test>(test: &T, lines: &[u64], m: usize) -> Option<Chosen>
 // The first three lines that pass.
 fn first_three<T: Test>(test: &T, lines: &[u64], m: usize) -> Option<Chosen>
     requires asked { ⌜ ready (now test) ⌝ }
-    requires lent { ⌜ 10 * m ≤ length (now lines) ⌝ ∗ ⌜ lines-fit 256 m (now lines) ≡ true ⌝ }
+    requires lent { ⌜ 10 * m ≤ length (now lines) ⌝ ∗ ⌜ lines-fit 16 m (now lines) ≡ true ⌝ }
+    requires taken { ⌜ ((l : Line) → In l (lines-in m (now lines)) → takes (now test) l) ⌝ }
     ensures { λ r. ⌜ mapped meant r ≡ first-right (decides (now (test .entry))) (choices 3 (lines-in m (now (lines .entry)))) ⌝ }
 {
     let none = none_chosen();
@@ -109,7 +114,8 @@ fn first_three<T: Test>(test: &T, lines: &[u64], m: usize) -> Option<Chosen>
 // The first four lines that pass.
 fn first_four<T: Test>(test: &T, lines: &[u64], m: usize) -> Option<Chosen>
     requires asked { ⌜ ready (now test) ⌝ }
-    requires lent { ⌜ 10 * m ≤ length (now lines) ⌝ ∗ ⌜ lines-fit 256 m (now lines) ≡ true ⌝ }
+    requires lent { ⌜ 10 * m ≤ length (now lines) ⌝ ∗ ⌜ lines-fit 16 m (now lines) ≡ true ⌝ }
+    requires taken { ⌜ ((l : Line) → In l (lines-in m (now lines)) → takes (now test) l) ⌝ }
     ensures { λ r. ⌜ mapped meant r ≡ first-right (decides (now (test .entry))) (choices 4 (lines-in m (now (lines .entry)))) ⌝ }
 {
     let none = none_chosen();
@@ -136,7 +142,8 @@ fn first_four<T: Test>(test: &T, lines: &[u64], m: usize) -> Option<Chosen>
 // The first choice of n lines that passes.
 pub fn first_choice<T: Test>(test: &T, lines: &[u64], m: usize, n: usize) -> Option<Chosen>
     requires asked { ⌜ ready (now test) ⌝ }
-    requires lent { ⌜ 10 * m ≤ length (now lines) ⌝ ∗ ⌜ lines-fit 256 m (now lines) ≡ true ⌝ }
+    requires lent { ⌜ 10 * m ≤ length (now lines) ⌝ ∗ ⌜ lines-fit 16 m (now lines) ≡ true ⌝ }
+    requires taken { ⌜ ((l : Line) → In l (lines-in m (now lines)) → takes (now test) l) ⌝ }
     requires size { ⌜ 1 ≤ n ⌝ ∗ ⌜ n ≤ 4 ⌝ }
     ensures { λ r. ⌜ mapped meant r ≡ first-right (decides (now (test .entry))) (choices n (lines-in m (now (lines .entry)))) ⌝ }
 {
@@ -151,7 +158,8 @@ pub fn first_choice<T: Test>(test: &T, lines: &[u64], m: usize, n: usize) -> Opt
 // The first choice that passes: the fewest lines, at most `most`, and of those the first by places.
 pub fn first_of_sizes<T: Test>(test: &T, lines: &[u64], m: usize, most: usize) -> Option<Chosen>
     requires asked { ⌜ ready (now test) ⌝ }
-    requires lent { ⌜ 10 * m ≤ length (now lines) ⌝ ∗ ⌜ lines-fit 256 m (now lines) ≡ true ⌝ }
+    requires lent { ⌜ 10 * m ≤ length (now lines) ⌝ ∗ ⌜ lines-fit 16 m (now lines) ≡ true ⌝ }
+    requires taken { ⌜ ((l : Line) → In l (lines-in m (now lines)) → takes (now test) l) ⌝ }
     requires size { ⌜ most ≤ 4 ⌝ }
     ensures { λ r. ⌜ mapped meant r ≡ by-size (decides (now (test .entry))) (lines-in m (now (lines .entry))) most 1 ⌝ }
 {

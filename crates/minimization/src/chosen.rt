@@ -11,5 +11,5 @@ pub struct Chosen {
     pub lines: [u64; 40],
     ghost few: { count ≤ 4 },
     ghost long: { length lines ≡ 40 },
-    ghost fit: { lines-fit 256 count lines ≡ true },
+    ghost fit: { lines-fit 16 count lines ≡ true },
 }

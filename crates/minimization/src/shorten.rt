@@ -31,6 +31,8 @@ impl<'a> Test for SaysSame<'a> as SaysSameTest {
 
     ghost ready = { λ s. question-refusal (now (s .question)) ≡ None };
 
+    ghost takes = { λ _ _. Unit {0} };
+
     fn passes(&self, lines: &[u64], n: usize) -> bool {
         reads_into(self.question, lines, n)
     }

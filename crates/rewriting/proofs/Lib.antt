@@ -1,3 +1,4 @@
 pub mod Trying
 pub mod Finding
 pub mod Working
+pub mod Telling

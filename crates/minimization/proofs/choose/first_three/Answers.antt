@@ -1,6 +1,7 @@
 use mathlib.Core.Path.{refl}
 use native.Mathlib.Omega.{arith}
 use Rattle.minimization.proofs.After.{begin, enter, leave, found, past}
+use Rattle.minimization.proofs.Taken.{none-taken, more-taken}
 use Rattle.minimization.proofs.choose.first_three.Needs as need
 
 pub found-holds : need.found-holds
@@ -26,3 +27,12 @@ returns-after-found g c = rw (c .found .inv .0) (leave _ (c .args .m) (c .args .
 
 pub returns-then-passes : need.returns-then-passes
 returns-then-passes g c = found _ (c .args .m) (c .args .lines .now) _ _ (c .loop-c .c) _ _ (omega arith) (c .with-nth-three .ensures .0) (c .if-passes .ensures tt) (c .loop-c .inv .1)
+
+pub passes-requires : need.passes-requires
+passes-requires g c κs =
+    let taken = g .T·Test .takes (c .args .test .now) in
+    let more = more-taken taken (c .args .m) in
+    let none = none-taken taken _ (c .none-chosen-none .ensures .0) in
+    let one = more (c .found .a) (c .args .lines .now) _ _ (omega arith) (c .with-nth-one .ensures .0) (c .pre .taken) none in
+    let two = more (c .loop-b .b) (c .args .lines .now) _ _ (omega arith) (c .with-nth-two .ensures .0) (c .pre .taken) one in
+    record { asked = c .pre .asked; taken = more (c .loop-c .c) (c .args .lines .now) _ _ (omega arith) (c .with-nth-three .ensures .0) (c .pre .taken) two }

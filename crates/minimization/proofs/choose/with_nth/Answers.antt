@@ -14,7 +14,7 @@ ghost-result c =
     let is : ys ≡ line-part (c .args .i) (c .args .lines .now) = c .copy-from-slice .ensures .after ∙ c .nth-line .ensures .part in
     let ten : length ys ≡ 10 = ap length (c .copy-from-slice .ensures .after) ∙ c .nth-line .ensures .ten in
     let n = c .args .chosen .count in
-    let p = nth-put 256 n (c .args .m) (c .args .i) (c .args .chosen .lines) (c .args .lines .now) ys (postOf (10 * n) (10 * n + 10 - 10 * n) (c .args .chosen .lines)) (omega arith) (c .args .chosen .fit) (c .pre .within .0) (c .pre .lent .1) ten is in
+    let p = nth-put 16 n (c .args .m) (c .args .i) (c .args .chosen .lines) (c .args .lines .now) ys (postOf (10 * n) (10 * n + 10 - 10 * n) (c .args .chosen .lines)) (omega arith) (c .args .chosen .fit) (c .pre .within .0) (c .pre .lent .1) ten is in
     (omega arith, (same-len-mid (10 * n) (10 * n + 10 - 10 * n) (c .args .chosen .lines) ys (c .copy-from-slice .ensures .len) ∙ c .args .chosen .long, (p .0, tt)))
 
 pub returns : need.returns
@@ -24,5 +24,5 @@ returns c =
     let is : ys ≡ line-part (c .args .i) (c .args .lines .now) = c .copy-from-slice .ensures .after ∙ c .nth-line .ensures .part in
     let ten : length ys ≡ 10 = ap length (c .copy-from-slice .ensures .after) ∙ c .nth-line .ensures .ten in
     let n = c .args .chosen .count in
-    let p = nth-put 256 n (c .args .m) (c .args .i) (c .args .chosen .lines) (c .args .lines .now) ys (postOf (10 * n) (10 * n + 10 - 10 * n) (c .args .chosen .lines)) (omega arith) (c .args .chosen .fit) (c .pre .within .0) (c .pre .lent .1) ten is in
+    let p = nth-put 16 n (c .args .m) (c .args .i) (c .args .chosen .lines) (c .args .lines .now) ys (postOf (10 * n) (10 * n + 10 - 10 * n) (c .args .chosen .lines)) (omega arith) (c .args .chosen .fit) (c .pre .within .0) (c .pre .lent .1) ten is in
     (p .1, refl)

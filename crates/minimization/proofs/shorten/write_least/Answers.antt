@@ -20,7 +20,8 @@ first-of-sizes-requires c κs =
     let few : c .args .count ≤ 4 = omega (arith, line-number (c .args .question .now) (c .pre .checked .0), n) in
     record {
       asked = c .pre .checked .0;
-      lent = (omega (arith, c .lines-of .ensures .long), rw n (lines-fit-wider 16 256 (length (question-in (c .args .question .now) .lines)) (c .lines-of .result .now) (omega arith) (c .lines-of .ensures .fit)));
+      lent = (omega (arith, c .lines-of .ensures .long), rw n (c .lines-of .ensures .fit));
+      taken = λ l i. tt;
       size = omega (arith, few);
     }
 
@@ -36,4 +37,13 @@ returns c =
     record {
       told = sym (length-lines-in (c .in-Some .chosen .count) (c .in-Some .chosen .lines)) ∙ ap (λ (p : Question). length (p .lines)) is;
       written = rw (← is) (c .write-question .ensures);
+    }
+
+pub write-question-requires : need.write-question-requires
+write-question-requires c κs =
+    let chosen = c .in-Some .chosen in
+    record {
+      checked = c .pre .checked .0;
+      lent = (omega (arith, chosen .few, chosen .long), lines-fit-wider 16 256 (chosen .count) (chosen .lines) (omega arith) (chosen .fit));
+      room = (chosen .few, c .pre .room);
     }

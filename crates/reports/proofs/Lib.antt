@@ -18,5 +18,4 @@ pub mod Moving
 pub mod Filling
 pub mod Gathering
 pub mod EachReport
-pub mod Uses
 pub mod Admitted

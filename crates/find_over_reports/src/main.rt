@@ -1,32 +1,30 @@
-// Reads a request as bytes from standard input, checks it, and prints one line.
-use question::Refusal;
+// Looks for a question over reports: reads a request as bytes from standard input, and prints one line.
+mod shown;
+
 use question::RefusalDisplay;
-use question::check_question;
-use reports::check_reports;
+use rewriting::Reply;
+use rewriting::find;
+use shown::show_found;
 use std::io;
 use std::io::Read;
+use wire::Request;
 use wire::read_request;
 
-// What a request holds.
-#[derive(Drop)]
-struct Counts {
-    reports: usize,
-    lines: usize,
-}
-
-// How many reports a request has and how many lines its question, or how it is turned away.
-fn counted(bytes: &[u8]) -> Result<Counts, Refusal> {
-    let request = read_request(bytes)?;
-    let reports = check_reports(&request.question, &request.reports)?;
-    let lines = check_question(&request.question)?;
-    Ok(Counts { reports, lines })
+// Prints what is found for a request.
+fn answer(rt: &LibcRuntime, request: &Request) -> io::Result<()> {
+    let mut found = [0; 50];
+    match find(&request.question, &request.reports, &mut found) {
+        Reply::By(uses) => show_found(rt, uses, &found),
+        Reply::Impossible => println!(rt, "none"),
+        Reply::Refused(refusal) => println!(rt, "{refusal}"),
+    }
 }
 
 fn main(rt: LibcRuntime) -> io::Result<()> {
     let mut bytes = Vec::new(rt.alloc());
     rt.stdin().read_to_end(&mut bytes)?;
-    match counted(bytes.as_slice()) {
-        Ok(Counts { reports, lines }) => println!(rt, "{reports} reports, {lines} lines"),
+    match read_request(bytes.as_slice()) {
+        Ok(request) => answer(&rt, &request),
         Err(refusal) => println!(rt, "{refusal}"),
     }
 }

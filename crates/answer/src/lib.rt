@@ -1,4 +1,6 @@
 // What a question answers from lent tables.
+#![tactic(auto)]
+
 mod answering;
 mod columns;
 mod copies;

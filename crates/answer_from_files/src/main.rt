@@ -1,5 +1,7 @@
 // Answers a question that stands in a file over tables that stand in files. For now it reads them all, checks the question
 // and tells how many tables and rows there are.
+#![tactic(auto)]
+
 use asked::asked;
 use failure::Failure;
 use lent::{Numbered, lend};

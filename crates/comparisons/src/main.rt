@@ -1,4 +1,6 @@
 // Questions beside questions: what `within` and `least` say of them, compared with the file stdout.
+#![tactic(auto)]
+
 mod draft;
 mod pairs;
 mod shortened;

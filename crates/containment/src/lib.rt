@@ -1,4 +1,6 @@
 // Reading one question into another, and a question's own tables: whether one question lies within another.
+#![tactic(auto)]
+
 mod ahead;
 mod answer;
 mod compare;

@@ -1,4 +1,6 @@
 // The edges of every refusal of a question: each case with what the check says of it, compared with the file stdout.
+#![tactic(auto)]
+
 mod bytes;
 mod lines;
 mod rows;

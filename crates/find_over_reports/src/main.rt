@@ -1,4 +1,6 @@
 // Looks for a question over reports: reads a request as bytes from standard input, and prints one line.
+#![tactic(auto)]
+
 mod shown;
 
 use rewriting::{Reply, find};

@@ -1,4 +1,6 @@
 // Lines of slots, joined over one sorted list of rows: the rows of all values under which every line stands, each once and in order.
+#![tactic(auto)]
+
 mod order;
 mod output;
 mod search;

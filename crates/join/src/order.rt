@@ -41,5 +41,5 @@ pub fn put_in_order(rows: &mut Vec<[u64; 5]>)
     ensures same { IsPermutation rows.old.items rows.new.items }
     ensures sorted { Sorted rows.new.items }
 {
-    rows.sort();
+    rows.sort_unstable();
 }

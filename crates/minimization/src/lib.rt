@@ -1,4 +1,6 @@
 // The least question that says the same.
+#![tactic(auto)]
+
 mod choose;
 mod chosen;
 mod laws;

@@ -1,4 +1,6 @@
 // Lines of slots narrowed before the join: two lines that alone name a slot that is not shown become one line without it.
+#![tactic(auto)]
+
 mod lines;
 mod merging;
 mod narrowing;

@@ -1,4 +1,6 @@
 // Questions in lent numbers: what they are, whether they are sound and where they are not, and how their parts are read and written.
+#![tactic(auto)]
+
 mod check;
 mod fits;
 mod laws;

@@ -1,4 +1,6 @@
 // Reports: questions over them, their expansion, and the widest question over them.
+#![tactic(auto)]
+
 mod check;
 mod expand;
 mod keep;

@@ -1,4 +1,6 @@
 // The fewest uses of reports that answer a question.
+#![tactic(auto)]
+
 mod fewest;
 mod laws;
 mod line;

@@ -1,4 +1,6 @@
 // Answers a question that stands in a file from tables that stand in files, and prints the rows or the refusal.
+#![tactic(auto)]
+
 ghost use Rattle.std.specs.Prelude.{IfOk};
 ghost use Rattle.rows_from_files.specs.Forms.{Full};
 

@@ -1,4 +1,6 @@
 // Random requests beside a second way that tries everything: what was compared, and how many differ.
+#![tactic(auto)]
+
 mod answered;
 mod answers;
 mod asked;

@@ -1,4 +1,6 @@
 // Requests in bytes, as programs read them, into lent numbers; and tables in text.
+#![tactic(auto)]
+
 ghost use Rattle.std.specs.Prelude.{◌≡◌, length, IfOk, Some, None, MatchResult};
 ghost use Rattle.question.specs.declared.refusals.Refusal.TheVariants.{CutShort};
 ghost use Rattle.wire.specs.Bytes.{request_of, question_of};

@@ -13,10 +13,10 @@ returns-then-question-lt50 c =
     let told : question_refusal c.args.question.now ≡ Some (CutShort _) = grind (arith, nat_tests) in
     record { told = told; meant = refused c.args.question.now _ told }
 
-pub returns-in-default : goal.returns-in-default
+pub returns-in_default : goal.returns-in_default
 unfolding question_refusal
-returns-in-default c =
-    let told : question_refusal c.args.question.now ≡ Some (NoQuestion c.unwrap-or.result) = grind (arith, nat_tests) in
+returns-in_default c =
+    let told : question_refusal c.args.question.now ≡ Some (NoQuestion c.unwrap_or.result) = grind (arith, nat_tests) in
     record { told = told; meant = refused c.args.question.now _ told }
 
 pub returns : goal.returns

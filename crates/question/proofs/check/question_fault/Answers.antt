@@ -9,13 +9,13 @@ pub returns-in-Some : goal.returns-in-Some
 unfolding fault
 returns-in-Some c = let lines = take_rest c.args.question.now 10 in grind (arith, nat_tests)
 
-pub row-good-requires : goal.row-good-requires
-row-good-requires c = let lines = take_rest c.args.question.now 10 in grind (arith, no_fault-fits)
+pub row_good-requires : goal.row_good-requires
+row_good-requires c = let lines = take_rest c.args.question.now 10 in grind (arith, no_fault-fits)
 
-pub returns-then-row-good : goal.returns-then-row-good
+pub returns-then-row_good : goal.returns-then-row_good
 unfolding fault
-returns-then-row-good c = let lines = take_rest c.args.question.now 10 in grind (arith, nat_tests)
+returns-then-row_good c = let lines = take_rest c.args.question.now 10 in grind (arith, nat_tests)
 
-pub returns-else-row-good : goal.returns-else-row-good
+pub returns-else-row_good : goal.returns-else-row_good
 unfolding fault
-returns-else-row-good c = let lines = take_rest c.args.question.now 10 in grind (arith, nat_tests)
+returns-else-row_good c = let lines = take_rest c.args.question.now 10 in grind (arith, nat_tests)

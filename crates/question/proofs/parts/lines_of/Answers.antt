@@ -4,11 +4,11 @@ use Rattle.question.specs.Layout.{lines_in, lines_fit, question_in}
 use Rattle.question.proofs.Parted.{long, lines_lent}
 use Rattle.question.proofs.parts.lines_of.Goals as goal
 
-pub slice-bounds-result-count : goal.slice-bounds-result-count
-slice-bounds-result-count c = omega (arith, long c.args.question.now c.requires)
+pub slice_bounds-result-count : goal.slice_bounds-result-count
+slice_bounds-result-count c = omega (arith, long c.args.question.now c.requires)
 
-pub slice-bounds-result-start : goal.slice-bounds-result-start
-slice-bounds-result-start c = omega (arith, long c.args.question.now c.requires)
+pub slice_bounds-result-start : goal.slice_bounds-result-start
+slice_bounds-result-start c = omega (arith, long c.args.question.now c.requires)
 
 pub returns : goal.returns
 returns c =

@@ -6,11 +6,11 @@ use Rattle.question.proofs.Parted.{long, row_count}
 use Rattle.question.proofs.Accepted.{checked}
 use Rattle.question.proofs.parts.row_term.Goals as goal
 
-pub slice-bounds-nth-term-end : goal.slice-bounds-nth-term-end
-slice-bounds-nth-term-end c = omega (arith, long c.args.question.now c.requires.checked)
+pub slice_bounds-nth_term-end : goal.slice_bounds-nth_term-end
+slice_bounds-nth_term-end c = omega (arith, long c.args.question.now c.requires.checked)
 
-pub nth-term-requires : goal.nth-term-requires
-nth-term-requires c =
+pub nth_term-requires : goal.nth_term-requires
+nth_term-requires c =
     let n = row_count c.args.question.now c.requires.checked in
     let k = checked c.args.question.now c.requires.checked in
     let h : c.args.i < get_or c.args.question.now 0 0 = omega (arith, n.0, c.requires.within) in
@@ -21,4 +21,4 @@ unfolding question_in
 returns c =
     let n = row_count c.args.question.now c.requires.checked in
     let h : c.args.i < get_or c.args.question.now 0 0 = omega (arith, n.0, c.requires.within) in
-    term_lent_next (get_or c.args.question.now 0 0) 1 c.args.i c.args.question.now c.nth-term.result n.1 h c.nth-term.ensures
+    term_lent_next (get_or c.args.question.now 0 0) 1 c.args.i c.args.question.now c.nth_term.result n.1 h c.nth_term.ensures

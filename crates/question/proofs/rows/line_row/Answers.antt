@@ -5,8 +5,8 @@ use Rattle.question.proofs.Fitting.{line_fits-cells}
 use Rattle.question.proofs.Decoding.{length-terms_in}
 use Rattle.question.proofs.rows.line_row.Goals as goal
 
-pub terms-row-requires : goal.terms-row-requires
-terms-row-requires c =
+pub terms_row-requires : goal.terms_row-requires
+terms_row-requires c =
     let f = line_fits-cells 16 c.args.line.now c.requires.lent.1 in
     let w : c.width.result ≡ get_or c.args.line.now 1 0 = c.width.ensures ∙ length-terms_in _ _ in
     let e = take_rest c.args.line.now 2 in
@@ -17,4 +17,4 @@ returns c =
     let w : c.width.result ≡ get_or c.args.line.now 1 0 = c.width.ensures ∙ length-terms_in _ _ in
     let r = take_rest c.args.line.now 2 in
     let l = length-terms_in (get_or c.args.line.now 1 0) (drop 2 c.args.line.now) in
-    c.terms-row.ensures ∙ rw (r, w, l)
+    c.terms_row.ensures ∙ rw (r, w, l)

@@ -8,4 +8,4 @@ pub returns : goal.returns
 returns c =
     let front = lines_out (lines_in c.args.n c.args.lines.now) in
     let l : length front ≡ 10 * c.args.n = length-lines_out 256 c.args.n c.args.lines.now c.requires.lent.1 in
-    ap (λ (xs : List ℕ). put_mid (10 * c.args.n) (40 - 10 * c.args.n) xs c.fill.new.self) c.write-each.ensures ∙ filled (10 * c.args.n) (40 - 10 * c.args.n) 40 front c.args.out.now c.fill.new.self l (omega arith) c.requires.room.1 (search rules)
+    ap (λ (xs : List ℕ). put_mid (10 * c.args.n) (40 - 10 * c.args.n) xs c.fill.new.self) c.write_each.ensures ∙ filled (10 * c.args.n) (40 - 10 * c.args.n) 40 front c.args.out.now c.fill.new.self l (omega arith) c.requires.room.1 (search rules)

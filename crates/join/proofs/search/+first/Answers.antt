@@ -27,8 +27,8 @@ bound-requires t c = record {
   slots = (omega arith, here-blank c.args.env.now c.args.k c.values.x (omega arith) c.requires.values.0);
 }
 
-pub returns-in-default : goal.returns-in-default
-returns-in-default t c v w = no_bound c.args.rows.now c.args.lines.now c.args.shown c.args.k c.args.env.now c.args.last.now c.args.tight c.values.x (omega arith) c.in-default.ensures v w (c.values.invariant.1 v w)
+pub returns-in_default : goal.returns-in_default
+returns-in_default t c v w = no_bound c.args.rows.now c.args.lines.now c.args.shown c.args.k c.args.env.now c.args.last.now c.args.tight c.values.x (omega arith) c.in_default.ensures v w (c.values.invariant.1 v w)
 
 pub values-preserved-then-y-x : goal.values-preserved-then-y-x
 values-preserved-then-y-x t c = (λ g. omega (arith, c.values.invariant.0 g), λ v w. bounded c.args.rows.now c.args.lines.now c.args.shown c.args.k c.args.env.now c.args.last.now c.args.tight c.values.x (omega arith) c.in-Some.y c.in-Some.ensures v w (c.values.invariant.1 v w))
@@ -76,7 +76,7 @@ returns-then-spare t c v w =
     no_value c.args.rows.now c.args.lines.now c.args.shown c.args.k c.args.env.now c.args.last.now c.args.tight c.values.x
     (c.if-spare.ensures.yes refl).0 (c.if-spare.ensures.yes refl).1
     (λ u g. past c.args.rows.now c.args.lines.now c.args.shown c.args.k c.args.env.now c.args.last.now c.args.tight c.values.x (omega arith)
-    c.passing-still.result (λ s. (c.passing-still.ensures.yes s).0) c.in-default-first.ensures u g (c.values.invariant.1 u g)) v w
+    c.passing-still.result (λ s. (c.passing-still.ensures.yes s).0) c.in_default-first.ensures u g (c.values.invariant.1 u g)) v w
 
 pub returns-then-x : goal.returns-then-x
 returns-then-x t c v w =
@@ -86,11 +86,11 @@ returns-then-x t c v w =
       value_small c.args.rows.now c.args.lines.now c.args.k v c.requires.table.1.0
           (elim (cases_lt c.args.k c.args.shown) [ inl g ↦ c.requires.table.1.1.1 c.args.k (omega arith) g | inr g ↦ c.if-spare.ensures.no refl g ]) w.stand,
       past c.args.rows.now c.args.lines.now c.args.shown c.args.k c.args.env.now c.args.last.now c.args.tight c.values.x (omega arith)
-          c.passing-still.result (λ s. (c.passing-still.ensures.yes s).0) c.in-default-first.ensures v w (c.values.invariant.1 v w),
+          c.passing-still.result (λ s. (c.passing-still.ensures.yes s).0) c.in_default-first.ensures v w (c.values.invariant.1 v w),
     )
 
 pub values-preserved : goal.values-preserved
 values-preserved t c = (
   λ g. omega (arith, c.values.invariant.0 g),
-  λ v w. past c.args.rows.now c.args.lines.now c.args.shown c.args.k c.args.env.now c.args.last.now c.args.tight c.values.x (omega arith) c.passing-still.result (λ s. (c.passing-still.ensures.yes s).0) c.in-default-first.ensures v w (c.values.invariant.1 v w),
+  λ v w. past c.args.rows.now c.args.lines.now c.args.shown c.args.k c.args.env.now c.args.last.now c.args.tight c.values.x (omega arith) c.passing-still.result (λ s. (c.passing-still.ensures.yes s).0) c.in_default-first.ensures v w (c.values.invariant.1 v w),
 )

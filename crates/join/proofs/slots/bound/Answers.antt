@@ -3,8 +3,8 @@ use Rattle.join.proofs.Bounds.{line_of}
 use Rattle.join.proofs.slots.bound.Goals as goal
 use Rattle.join.proofs.slots.bound.Goals.{then-has+in-Some+then-least-high, then-has+in-Some+else-least-high, else-has}
 
-pub returns-in-default : goal.returns-in-default
-returns-in-default c v agree up f = c.in-default.ensures v agree up (line_of c.args.rows.now c.args.lines.now v f c.loop-line.line-index (omega arith))
+pub returns-in_default : goal.returns-in_default
+returns-in_default c v agree up f = c.in_default.ensures v agree up (line_of c.args.rows.now c.args.lines.now v f c.loop-line.line-index (omega arith))
 
 pub loop-line-preserved : goal.loop-line-preserved
 loop-line-preserved c = elim c.if-has.branch [

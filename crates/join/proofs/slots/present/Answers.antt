@@ -9,17 +9,17 @@ returns-then-at-rows c = record {
   no = λ e f. omega (
     arith,
     f.inside,
-    key-not-past c.args.rows.now c.args.line.now c.args.env.now c.row-under-key.result
-        (key_at c.args.line.now c.args.env.now c.row-under-key.result c.row-under-key.ensures) c.lower-at.result c.lower-at.ensures.below f,
+    key-not-past c.args.rows.now c.args.line.now c.args.env.now c.row_under-key.result
+        (key_at c.args.line.now c.args.env.now c.row_under-key.result c.row_under-key.ensures) c.lower-at.result c.lower-at.ensures.below f,
   );
 }
 
 pub returns : goal.returns
 returns c =
-    let is_key = key_at c.args.line.now c.args.env.now c.row-under-key.result c.row-under-key.ensures in
+    let is_key = key_at c.args.line.now c.args.env.now c.row_under-key.result c.row_under-key.ensures in
     record {
-      yes = λ e. stands c.args.rows.now c.args.line.now c.args.env.now c.row-under-key.result is_key c.lower-at.result (omega arith)
+      yes = λ e. stands c.args.rows.now c.args.line.now c.args.env.now c.row_under-key.result is_key c.lower-at.result (omega arith)
           (c.lower-at.ensures.from (omega arith)) (c.less.ensures.no (grind (arith, nat_tests)));
-      no = λ e. stands-not c.args.rows.now c.args.line.now c.args.env.now c.row-under-key.result is_key c.lower-at.result c.requires.0
+      no = λ e. stands-not c.args.rows.now c.args.line.now c.args.env.now c.row_under-key.result is_key c.lower-at.result c.requires.0
           c.lower-at.ensures.below (c.less.ensures.yes (grind (arith, nat_tests)));
     }

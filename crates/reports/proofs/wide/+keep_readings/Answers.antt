@@ -37,7 +37,7 @@ loop-j-preserved-in_default t c =
 pub keep_readings-requires : goal.keep_readings-requires
 keep_readings-requires t c =
     let within = line-within (part_of c.args.reading.codes) (part_of c.in-Some.more.codes) (line_in c.line_at-from.result.now) (line_in c.line_at.result.now) (sym c.in-Some.ensures) c.requires.within (fits-within-cells c.line_at.result.now c.line_at.ensures.fits).each in
-    (omega (arith, c.decreases, c.line_count.ensures.0, c.if-i-line_count.false), (c.requires.checked.0, (c.requires.checked.1, (c.requires.small, within))))
+    (omega (arith, c.decreases, c.line_count.ensures.0, c.if-i-line_count.false), (c.requires.checked, (c.requires.small, within)))
 
 pub returns-in_default-keep_readings : goal.returns-in_default-keep_readings
 returns-in_default-keep_readings t c =

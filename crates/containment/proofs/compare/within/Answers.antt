@@ -1,5 +1,4 @@
 use Rattle.std.proofs.Common.{◌≡◌, ℕ, true, false, List, ◌++◌, length, drop, sym, ap, ◌∙◌, subst}
-use Rattle.question.specs.Question.{Question, Within}
 use Rattle.question.specs.Layout.{question_in, value_in}
 use Rattle.question.specs.Tables.{tables_in}
 use Rattle.question.proofs.Accepted.{allowed}

@@ -1,5 +1,4 @@
-use Rattle.std.proofs.Common.{◌≡◌, ◌<◌, ◌≤◌, true, ◌++◌, sym, ◌∙◌, add-one, arith}
-use Rattle.question.specs.Sound.{has}
+use Rattle.std.proofs.Common.{◌<◌, ◌++◌, sym, ◌∙◌, add-one, arith}
 use Rattle.question.specs.Layout.{question_in}
 use Rattle.containment.specs.OwnTables.{question_numbers, free_from}
 use Rattle.containment.proofs.Naming.{free_next, free_here, free_above}

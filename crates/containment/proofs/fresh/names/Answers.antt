@@ -1,5 +1,4 @@
-use Rattle.std.proofs.Common.{◌≡◌, ℕ, ◌+◌, ◌<◌, ◌≤◌, true, false, ◌++◌, length, get_or, set, sym, refl, ap, ◌∙◌, arith, length-set}
-use Rattle.question.specs.Question.{Question}
+use Rattle.std.proofs.Common.{◌≡◌, ℕ, ◌+◌, ◌≤◌, ◌++◌, sym, refl, ap, ◌∙◌, arith}
 use Rattle.question.specs.Sound.{has}
 use Rattle.question.specs.Layout.{question_in}
 use Rattle.question.proofs.Accepted.{allowed}

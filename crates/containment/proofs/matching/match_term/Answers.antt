@@ -1,4 +1,4 @@
-use Rattle.std.proofs.Common.{sym, ◌∙◌, arith}
+use Rattle.std.proofs.Common.{sym, arith}
 use Rattle.containment.specs.Coding.{part_of}
 use Rattle.containment.proofs.Codes.{number_same, number-other, variable_new, variable_same, variable_other, has-place}
 use Rattle.containment.proofs.matching.match_term.Goals as goal

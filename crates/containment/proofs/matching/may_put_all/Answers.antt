@@ -1,4 +1,4 @@
-use Rattle.std.proofs.Common.{◌≡◌, sym, ◌∙◌, subst, arith}
+use Rattle.std.proofs.Common.{sym, subst, arith}
 use Rattle.question.specs.declared.terms.Term.{Term}
 use Rattle.question.specs.Sound.{TermWithin}
 use Rattle.question.specs.Layout.{terms_in}

@@ -1,4 +1,4 @@
-use Rattle.std.proofs.Common.{◌≡◌, length, Some, None, sym, ap, ◌∙◌, arith}
+use Rattle.std.proofs.Common.{◌≡◌, Some, None, arith}
 use Rattle.question.specs.Layout.{question_in}
 use Rattle.question.specs.Reports.{reports_in}
 use Rattle.question.proofs.Decoding.{length-lines_in}

@@ -2,7 +2,6 @@ use Rattle.std.proofs.Common.{◌≡◌, ℕ, List, ◌++◌, replicate, string_
 use Rattle.question.specs.Layout.{question_in}
 use Rattle.question.proofs.Accepted.{not_refused}
 use Rattle.rewriting.specs.declared.reply.Reply.{Reply}
-use Rattle.rewriting.specs.declared.reply.Reply.TheVariants.{By}
 use Rattle.rewriting.specs.Answer.{Stands, Meant, find_says, printed}
 use Rattle.rewriting.specs.Texts.{reply_text}
 use Rattle.rewriting.proofs.line.found_line.Goals as goal

@@ -1,4 +1,4 @@
-use Rattle.std.proofs.Common.{◌≡◌, ℕ, List, ◌++◌, length, drop, IfOk, string_bytes, codes, decimal, ap, ◌∙◌, subst, append_assoc, arith}
+use Rattle.std.proofs.Common.{◌≡◌, ℕ, List, ◌++◌, length, drop, IfOk, string_bytes, codes, decimal, ap, ◌∙◌, subst, append_assoc}
 use Rattle.question.specs.Layout.{line_in, question_in}
 use Rattle.question.proofs.Accepted.{checked}
 use Rattle.question.proofs.Members.{sound_parts}

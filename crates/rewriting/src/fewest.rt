@@ -1,5 +1,5 @@
 // The fewest uses of reports that answer a question, found and written down.
-ghost use Rattle.std.specs.Prelude.{◌≡◌, ◌≤◌, length, None};
+ghost use Rattle.std.specs.Prelude.{◌≡◌, ◌≤◌, length, MatchResult, None};
 ghost use Rattle.question.specs.Layout.{question_in};
 ghost use Rattle.question.specs.Reports.{reports_in};
 ghost use Rattle.question.specs.Check.{question_refusal};
@@ -53,6 +53,16 @@ fn write_fewest(question: &[u64], reports: &[u64], uses: &Uses, out: &mut [u64])
     Reply::By(chosen.count as u64)
 }
 
+// The refusal of a check that failed.
+fn refused_by<T: Copy>(check: Result<T, Refusal>) -> Reply
+    ensures { MatchResult check (λ _. result ≡ Reply.Impossible) (λ e. result ≡ Reply.Refused e) }
+{
+    match check {
+        Ok(_) => Reply::Impossible,
+        Err(refusal) => Reply::Refused(refusal),
+    }
+}
+
 // Finds the fewest uses of the reports that answer the question, and of those the first, and writes the question over the reports that they make.
 pub fn find(question: &[u64], reports: &[u64], out: &mut [u64]) -> Reply
     ensures told { result ≡ find_says question.now reports.now out.old }
@@ -60,15 +70,17 @@ pub fn find(question: &[u64], reports: &[u64], out: &mut [u64]) -> Reply
     ensures written { out.new ≡ find_leaves question.now reports.now out.old }
     ensures meant { Meant question.now reports.now out.old out.new result }
 {
-    let count = match check_reports(question, reports) {
-        Ok(count) => count,
-        Err(refusal) => return Reply::Refused(refusal),
+    let check = check_reports(question, reports);
+    let Ok(count) = check else {
+        return refused_by(check);
     };
-    if out.len() < 50 {
+    let room = out.len() >= 50;
+    if !room {
         return Reply::Refused(Refusal::NoRoomForQuestion(out.len() as u64));
     }
-    match widest(question, reports, count) {
-        Ok(uses) => write_fewest(question, reports, &uses, out),
-        Err(refusal) => Reply::Refused(refusal),
-    }
+    let wide = widest(question, reports, count);
+    let Ok(uses) = wide else {
+        return refused_by(wide);
+    };
+    write_fewest(question, reports, &uses, out)
 }

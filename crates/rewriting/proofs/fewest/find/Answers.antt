@@ -16,29 +16,30 @@ use Rattle.rewriting.specs.Answer.{find_refusal, find_says, find_leaves, Meant}
 use Rattle.rewriting.proofs.Telling.{numbered, counted, kept-widest, refused_first, refused_room, refused_wide, refused_not, not_wide, meant-found}
 use Rattle.rewriting.proofs.fewest.find.Goals as goal
 
-pub returns-in-Err : goal.returns-in-Err
+pub returns-in_default : goal.returns-in_default
 unfolding find_says find_leaves Meant
-returns-in-Err c =
-    let some = c.in-Err.ensures.told in
-    let e = refused_first c.args.question.now c.args.reports.now c.args.out.now c.in-Err.refusal some in
-    let told : answer.Refused c.in-Err.refusal ≡ find_says c.args.question.now c.args.reports.now c.args.out.now = rw e in
+returns-in_default c =
+    let some = c.in_default.ensures.told in
+    let r : c.refused_by.result ≡ answer.Refused c.in_default.field-0 = rw c.in_default.is at c.refused_by.ensures in
+    let e = refused_first c.args.question.now c.args.reports.now c.args.out.now c.in_default.field-0 some in
+    let told : c.refused_by.result ≡ find_says c.args.question.now c.args.reports.now c.args.out.now = rw e r in
     record {
       told = told;
       numbered = numbered _ _ _ told;
       written = rw e;
-      meant = record { same = refl; why = e; wide = λ p. absurd (not_wide c.args.question.now c.args.reports.now c.in-Err.refusal some p) };
+      meant = rw r (record { same = refl; why = e; wide = λ p. absurd (not_wide c.args.question.now c.args.reports.now c.in_default.field-0 some p) });
     }
 
-pub returns-then-out-lt50 : goal.returns-then-out-lt50
+pub returns-then-not-room : goal.returns-then-not-room
 unfolding find_says find_leaves Meant
-returns-then-out-lt50 c =
-    let e = refused_room c.args.question.now c.args.reports.now c.args.out.now c.in-Ok.ensures.told.0 c.if-out-lt50.true in
+returns-then-not-room c =
+    let e = refused_room c.args.question.now c.args.reports.now c.args.out.now c.in-Ok.ensures.told.0 c.if-not-room.true in
     let told : answer.Refused (NoRoomForQuestion (length c.args.out.now)) ≡ find_says c.args.question.now c.args.reports.now c.args.out.now = rw e in
     record { told = told; numbered = numbered _ _ _ told; written = rw e; meant = record { same = refl; why = e; wide = λ p. let z : ◌≡◌ {A = ℕ} 4 5 = ap number p in absurd (omega arith) } }
 
-pub widest-requires : goal.widest-requires
+pub widest-wide-requires : goal.widest-wide-requires
 unfolding report_part
-widest-requires c =
+widest-wide-requires c =
     let reports = c.args.reports.now in
     let n : c.in-Ok.count ≡ get_or reports 0 0 = c.in-Ok.ensures.told.1 ∙ length-reports_in reports in
     let kept = c.in-Ok.ensures.kept in
@@ -54,23 +55,23 @@ write_fewest-requires c =
     let told = c.in-Ok.ensures.told in
     record {
       checked = ((passed c.args.question.now reports told.0).checked, c.in-Ok.ensures.kept);
-      wide = kept-widest c.in-Ok.count reports (question_in c.args.question.now) (lines_kept c.in-Ok-widest.uses) told.1 c.in-Ok-widest.ensures.told;
-      room = c.if-out-lt50.false;
+      wide = kept-widest c.in-Ok.count reports (question_in c.args.question.now) (lines_kept c.in-Ok-wide.uses) told.1 c.in-Ok-wide.ensures.told;
+      room = c.if-not-room.false;
     }
 
-pub returns-in-Ok-widest : goal.returns-in-Ok-widest
+pub returns : goal.returns
 unfolding find_says find_leaves
-returns-in-Ok-widest c =
+returns c =
     let question = c.args.question.now in
     let reports = c.args.reports.now in
     let out = c.args.out.now in
     let told = c.in-Ok.ensures.told in
-    let uses = c.in-Ok-widest.uses in
+    let uses = c.in-Ok-wide.uses in
     let q : Question = question_in question in
     let ws : List Line = (widest (reports_in reports) q).lines in
-    let is : lines_kept uses ≡ ws = kept-widest c.in-Ok.count reports q (lines_kept uses) told.1 c.in-Ok-widest.ensures.told in
+    let is : lines_kept uses ≡ ws = kept-widest c.in-Ok.count reports q (lines_kept uses) told.1 c.in-Ok-wide.ensures.told in
     let few : length ws ≤ 32 = omega (arith, ap length is, length-lines_in uses.count uses.lines, uses.few) in
-    let e : find_refusal question reports out ≡ None = refused_not question reports out told.0 c.if-out-lt50.false few in
+    let e : find_refusal question reports out ≡ None = refused_not question reports out told.0 c.if-not-room.false few in
     let says : c.write_fewest.result ≡ find_says question reports out = rw e c.write_fewest.ensures.told in
     record {
       told = says;
@@ -79,21 +80,22 @@ returns-in-Ok-widest c =
       meant = meant-found question reports out _ _ (find (reports_in reports) 16 16 q) told.0 (λ l i. fits-within-lines uses.count uses.lines uses.fit l (subst (λ (ls : List Line). In l ls) (sym is) i)) refl c.write_fewest.ensures.told c.write_fewest.ensures.written;
     }
 
-pub returns-in-Err-widest : goal.returns-in-Err-widest
+pub returns-in_default-wide : goal.returns-in_default-wide
 unfolding find_says find_leaves Meant
-returns-in-Err-widest c =
+returns-in_default-wide c =
     let question = c.args.question.now in
     let reports = c.args.reports.now in
     let out = c.args.out.now in
     let told = c.in-Ok.ensures.told in
+    let wide = c.in_default-wide.ensures in
     let same = counted c.in-Ok.count reports told.1 in
-    let h = subst (λ (rs : List Question). 32 < length (widest rs (question_in question)).lines) same c.in-Err-widest.ensures.told.1 in
-    let is = c.in-Err-widest.ensures.told.0 in
-    let e : find_refusal question reports out ≡ Some c.in-Err-widest.refusal = refused_wide question reports out told.0 c.if-out-lt50.false h ∙ ap Some (sym is) in
-    let says : answer.Refused c.in-Err-widest.refusal ≡ find_says question reports out = rw e in
+    let h = subst (λ (rs : List Question). 32 < length (widest rs (question_in question)).lines) same wide.told.1 in
+    let r : c.refused_by-in_default-wide.result ≡ answer.Refused c.in_default-wide.field-0 = rw c.in_default-wide.is at c.refused_by-in_default-wide.ensures in
+    let e : find_refusal question reports out ≡ Some c.in_default-wide.field-0 = refused_wide question reports out told.0 c.if-not-room.false h ∙ ap Some (sym wide.told.0) in
+    let says : c.refused_by-in_default-wide.result ≡ find_says question reports out = rw e r in
     record {
       told = says;
       numbered = numbered _ _ _ says;
       written = rw e;
-      meant = record { same = refl; why = e; wide = λ _. subst (λ (rs : List Question). IsTooWide rs (question_in question)) same c.in-Err-widest.ensures.meant };
+      meant = rw r (record { same = refl; why = e; wide = λ _. subst (λ (rs : List Question). IsTooWide rs (question_in question)) same wide.meant });
     }

@@ -1,6 +1,5 @@
 -- Codes told apart: what a reading's number says of the term that it is compared with.
-use Rattle.std.proofs.Common.{◌≡◌, ℕ, ◌+◌, ◌-◌, ◌<◌, ◌≤◌, Bool, true, false, cond, eqb, ltb, List, length, get_or, set, Some, None, Option, sym, refl, ap, ◌∙◌, subst, arith, ltb-false, le-ltb, lt-ltb, eq-eqb, ne_eqb, eqb-true}
-use borrow.Author.Tests.{eqb-false}
+use Rattle.std.proofs.Common.{◌≡◌, ℕ, ◌-◌, ◌<◌, ◌≤◌, Bool, true, false, ltb, List, length, get_or, set, Some, None, sym, refl, ap, ◌∙◌, subst, arith, ltb-false, le-ltb, lt-ltb, eq-eqb}
 use Rattle.std.proofs.lemmas.List.{get_or_default}
 use Rattle.question.specs.declared.terms.Term.{Term}
 use Rattle.question.specs.declared.terms.Term.TheVariants.{Number, Variable}
@@ -8,7 +7,7 @@ use Rattle.question.specs.Sound.{TermWithin}
 use Rattle.containment.specs.Search.{term_eqb, Part, match_var, match_term}
 use Rattle.containment.specs.Coding.{code, decode, Codes, part_of}
 use Rattle.containment.proofs.Coding.{decode-code, part_set}
-use Rattle.containment.proofs.Searching.{term_eqb_true, term_eqb_false}
+use Rattle.containment.proofs.Searching.{term_eqb_true}
 
 -- different terms have different codes
 pub codes_apart : (s t : Term) → Codes s → Codes t → code s ≡ code t → s ≡ t

@@ -2,7 +2,7 @@
 use Rattle.std.proofs.Common.{◌≡◌, is_some, Some, None, Option, refl, ap, ◌∙◌}
 use Rattle.question.specs.Question.{Question}
 use Rattle.containment.specs.declared.reading.Reading.{Reading}
-use Rattle.containment.specs.Search.{Part, nothing, and_then, match_terms, read_lines, first_reading, can_read}
+use Rattle.containment.specs.Search.{Part, nothing, match_terms, read_lines, first_reading, can_read}
 use Rattle.containment.specs.Told.{told}
 
 pub rows_differ : (q p : Question) → match_terms nothing q.row p.row ≡ None → first_reading q p ≡ None

@@ -1,5 +1,5 @@
 -- What is handed on: the terms of a line and of a row, and the next term and line of a loop.
-use Rattle.std.proofs.Common.{◌≡◌, ℕ, ◌+◌, ◌-◌, ◌*◌, ◌<◌, ◌≤◌, true, List, ◌∷◌, length, get_or, take, drop, None, sym, ◌∙◌, arith}
+use Rattle.std.proofs.Common.{◌≡◌, ℕ, ◌+◌, ◌-◌, ◌*◌, ◌<◌, ◌≤◌, true, List, ◌∷◌, length, get_or, take, drop, None, ◌∙◌, arith}
 use Rattle.std.proofs.lemmas.List.{take_rest, length-drop}
 use Rattle.question.specs.declared.terms.Term.{Term}
 use Rattle.question.specs.Layout.{term_in, terms_in, terms_fit, line_in, line_fits, lines_in, lines_fit, line_part, question_in}

@@ -1,7 +1,6 @@
 -- The number and the values of an answer.
-use Rattle.std.proofs.Common.{◌≡◌, ℕ, Bool, true, false, cond, List, Some, None, Option, sym, refl, subst}
+use Rattle.std.proofs.Common.{◌≡◌, ℕ, Bool, true, false, List, Some, None, Option, sym, refl, subst}
 use Rattle.question.specs.declared.refusals.Refusal.{Refusal}
-use Rattle.question.specs.Refusals.{told_number, told_values}
 use Rattle.question.specs.Layout.{question_in}
 use Rattle.containment.specs.declared.answer.Containment.{Containment}
 use Rattle.containment.specs.Search.{can_read}

@@ -1,5 +1,5 @@
 -- Where one term can't be put, the terms can't.
-use Rattle.std.proofs.Common.{◌≡◌, ℕ, zero, suc, ◌+◌, List, [], ◌∷◌, drop, Some, None, Option, sym, refl, ap, ◌∙◌, subst, arith}
+use Rattle.std.proofs.Common.{◌≡◌, ℕ, zero, suc, ◌+◌, List, [], ◌∷◌, drop, Some, None, Option, sym, refl, ap, ◌∙◌, subst}
 use Rattle.question.specs.declared.terms.Term.{Term}
 use Rattle.containment.specs.Reading.{put, all_put}
 use Rattle.containment.specs.Search.{Part, match_term, match_terms, filling}

@@ -1,9 +1,8 @@
 -- What is told of two questions is so: the numbers in the room, and what they mean.
-use Rattle.std.proofs.Common.{◌≡◌, ℕ, ◌<◌, ◌≤◌, Bool, true, false, cond, eqb, ltb, List, [], ◌∷◌, ◌++◌, length, get_or, drop, None, sym, refl, ap, ◌∙◌, subst, ap₂, arith}
+use Rattle.std.proofs.Common.{◌≡◌, ℕ, ◌<◌, ◌≤◌, true, false, cond, eqb, ltb, List, [], ◌∷◌, ◌++◌, length, get_or, drop, None, sym, refl, ap, ◌∙◌, ap₂, arith}
 use borrow.Author.Tests.{clash}
-use Rattle.question.specs.declared.terms.Term.{Term}
-use Rattle.question.specs.declared.terms.Term.TheVariants.{Number, Variable}
-use Rattle.question.specs.Question.{Line, Question, Row, Value, all_at, In, Answers, Within}
+use Rattle.question.specs.declared.terms.Term.TheVariants.{Variable}
+use Rattle.question.specs.Question.{Line, Question, Row, Value, all_at, In, Within}
 use Rattle.question.specs.Sound.{Allowed}
 use Rattle.question.specs.Layout.{question_in, value_in}
 use Rattle.question.specs.Check.{question_refusal}
@@ -14,7 +13,7 @@ use Rattle.containment.specs.declared.answer.Containment.TheVariants as answer
 use Rattle.question.specs.Tables.{tables_in}
 use Rattle.containment.specs.Reading.{Reads}
 use Rattle.containment.specs.Search.{can_read}
-use Rattle.containment.specs.OwnTables.{rows_of, own_tables, Shown, naming}
+use Rattle.containment.specs.OwnTables.{rows_of, Shown, naming}
 use Rattle.containment.specs.OwnNumbers.{lines_once, cells_out, table_out, each_out, table_heads, tables_out}
 use Rattle.containment.specs.Answer.{within_refusal, within_says, TellsApart}
 use Rattle.containment.proofs.Readings.{all_at-same, reads-within}

@@ -1,9 +1,9 @@
 -- What `within` answers and leaves in the room, and what that means. Assumes nothing: these are definitions.
-use Rattle.std.specs.Prelude.{◌≡◌, ℕ, ◌≤◌, Bool, cond, List, [], ◌∷◌, ◌++◌, length, drop, Some, None, Option, nat_lt}
+use Rattle.std.specs.Prelude.{◌≡◌, ℕ, Bool, cond, List, [], ◌∷◌, ◌++◌, length, drop, Some, None, Option, nat_lt}
 use Rattle.std.specs.Option.{option_or}
 use Rattle.question.specs.declared.refusals.Refusal.{Refusal}
 use Rattle.question.specs.declared.refusals.Refusal.TheVariants.{NoRoomForTables}
-use Rattle.question.specs.Question.{Question, Row, Base, all_at, Answers, Within}
+use Rattle.question.specs.Question.{Question, Row, Base, Answers, Within}
 use Rattle.question.specs.Layout.{question_in}
 use Rattle.question.specs.Refusals.{number, place, told_number, told_values}
 use Rattle.question.specs.Check.{cut_short, question_refusal}

@@ -5,7 +5,7 @@ use Rattle.question.specs.Question.{Line, In, Same}
 use Rattle.containment.proofs.Counting.{from_on, from_in, in_from, from-rising}
 use Rattle.containment.proofs.Exactly.{within-reads}
 use Rattle.minimization.specs.Choices.{choices, first_right}
-use Rattle.minimization.specs.Least.{says_same, least, at_places}
+use Rattle.minimization.specs.Least.{says_same, at_places}
 use Rattle.minimization.specs.Laws.{LeastFirst}
 use Rattle.minimization.proofs.Choosing.{PartOf, part_in, part-rising, choice-part, choice-length, part-choice, rising_part, choices-rising, first_in, first-least, first-map}
 use Rattle.minimization.proofs.Fewest.{with_lines, reads_same, Got, got}

@@ -37,19 +37,19 @@ fn with_nth(chosen: Chosen, lines: &[u64], m: usize, i: usize) -> Chosen
 
 // Whether a choice passes.
 fn passes<T: Test>(test: &T, chosen: &Chosen) -> bool
-    requires asked { ready test.now }
-    requires taken { (l : Line) → In l (meant chosen.now) → takes test.now l }
-    ensures { result ≡ decides test.now (meant chosen.now) }
+    requires asked { T.ready test.now }
+    requires taken { (l : Line) → In l (meant chosen.now) → T.takes test.now l }
+    ensures { result ≡ T.decides test.now (meant chosen.now) }
 {
     test.passes(&chosen.lines, chosen.count)
 }
 
 // The first line that passes.
 fn first_one<T: Test>(test: &T, lines: &[u64], m: usize) -> Option<Chosen>
-    requires asked { ready test.now }
+    requires asked { T.ready test.now }
     requires lent { (10 * m ≤ length lines.now) × (lines_fit 16 m lines.now ≡ true) }
-    requires taken { (l : Line) → In l (lines_in m lines.now) → takes test.now l }
-    ensures { option_map meant result ≡ first_right (decides test.now) (choices 1 (lines_in m lines.now)) }
+    requires taken { (l : Line) → In l (lines_in m lines.now) → T.takes test.now l }
+    ensures { option_map meant result ≡ first_right (T.decides test.now) (choices 1 (lines_in m lines.now)) }
 {
     let none = none_chosen();
     for a in 0..m {
@@ -63,10 +63,10 @@ fn first_one<T: Test>(test: &T, lines: &[u64], m: usize) -> Option<Chosen>
 
 // The first two lines that pass.
 fn first_two<T: Test>(test: &T, lines: &[u64], m: usize) -> Option<Chosen>
-    requires asked { ready test.now }
+    requires asked { T.ready test.now }
     requires lent { (10 * m ≤ length lines.now) × (lines_fit 16 m lines.now ≡ true) }
-    requires taken { (l : Line) → In l (lines_in m lines.now) → takes test.now l }
-    ensures { option_map meant result ≡ first_right (decides test.now) (choices 2 (lines_in m lines.now)) }
+    requires taken { (l : Line) → In l (lines_in m lines.now) → T.takes test.now l }
+    ensures { option_map meant result ≡ first_right (T.decides test.now) (choices 2 (lines_in m lines.now)) }
 {
     let none = none_chosen();
     let mut first = None;
@@ -85,10 +85,10 @@ fn first_two<T: Test>(test: &T, lines: &[u64], m: usize) -> Option<Chosen>
 
 // The first three lines that pass.
 fn first_three<T: Test>(test: &T, lines: &[u64], m: usize) -> Option<Chosen>
-    requires asked { ready test.now }
+    requires asked { T.ready test.now }
     requires lent { (10 * m ≤ length lines.now) × (lines_fit 16 m lines.now ≡ true) }
-    requires taken { (l : Line) → In l (lines_in m lines.now) → takes test.now l }
-    ensures { option_map meant result ≡ first_right (decides test.now) (choices 3 (lines_in m lines.now)) }
+    requires taken { (l : Line) → In l (lines_in m lines.now) → T.takes test.now l }
+    ensures { option_map meant result ≡ first_right (T.decides test.now) (choices 3 (lines_in m lines.now)) }
 {
     let none = none_chosen();
     let mut first = None;
@@ -110,10 +110,10 @@ fn first_three<T: Test>(test: &T, lines: &[u64], m: usize) -> Option<Chosen>
 
 // The first four lines that pass.
 fn first_four<T: Test>(test: &T, lines: &[u64], m: usize) -> Option<Chosen>
-    requires asked { ready test.now }
+    requires asked { T.ready test.now }
     requires lent { (10 * m ≤ length lines.now) × (lines_fit 16 m lines.now ≡ true) }
-    requires taken { (l : Line) → In l (lines_in m lines.now) → takes test.now l }
-    ensures { option_map meant result ≡ first_right (decides test.now) (choices 4 (lines_in m lines.now)) }
+    requires taken { (l : Line) → In l (lines_in m lines.now) → T.takes test.now l }
+    ensures { option_map meant result ≡ first_right (T.decides test.now) (choices 4 (lines_in m lines.now)) }
 {
     let none = none_chosen();
     let mut first = None;
@@ -138,11 +138,11 @@ fn first_four<T: Test>(test: &T, lines: &[u64], m: usize) -> Option<Chosen>
 
 // The first choice of n lines that passes.
 pub fn first_choice<T: Test>(test: &T, lines: &[u64], m: usize, n: usize) -> Option<Chosen>
-    requires asked { ready test.now }
+    requires asked { T.ready test.now }
     requires lent { (10 * m ≤ length lines.now) × (lines_fit 16 m lines.now ≡ true) }
-    requires taken { (l : Line) → In l (lines_in m lines.now) → takes test.now l }
+    requires taken { (l : Line) → In l (lines_in m lines.now) → T.takes test.now l }
     requires size { (1 ≤ n) × (n ≤ 4) }
-    ensures { option_map meant result ≡ first_right (decides test.now) (choices n (lines_in m lines.now)) }
+    ensures { option_map meant result ≡ first_right (T.decides test.now) (choices n (lines_in m lines.now)) }
 {
     match n {
         1 => first_one(test, lines, m),
@@ -154,11 +154,11 @@ pub fn first_choice<T: Test>(test: &T, lines: &[u64], m: usize, n: usize) -> Opt
 
 // The first choice that passes: the fewest lines, at most `most`, and of those the first by places.
 pub fn first_of_sizes<T: Test>(test: &T, lines: &[u64], m: usize, most: usize) -> Option<Chosen>
-    requires asked { ready test.now }
+    requires asked { T.ready test.now }
     requires lent { (10 * m ≤ length lines.now) × (lines_fit 16 m lines.now ≡ true) }
-    requires taken { (l : Line) → In l (lines_in m lines.now) → takes test.now l }
+    requires taken { (l : Line) → In l (lines_in m lines.now) → T.takes test.now l }
     requires size { most ≤ 4 }
-    ensures { option_map meant result ≡ by_size (decides test.now) (lines_in m lines.now) most 1 }
+    ensures { option_map meant result ≡ by_size (T.decides test.now) (lines_in m lines.now) most 1 }
 {
     for n in 1..most + 1 {
         let first = first_choice(test, lines, m, n);

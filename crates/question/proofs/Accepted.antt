@@ -1,15 +1,14 @@
 -- A lent question is accepted exactly if its numbers write down a question that may be asked.
-use Rattle.std.proofs.Common.{◌≡◌, ℕ, zero, suc, ◌+◌, ◌-◌, ◌*◌, ◌<◌, ◌≤◌, min, Bool, true, false, cond, ◌&&◌, eqb, ltb, leb, ◌⊎◌, List, [], ◌∷◌, length, get_or, take, drop, Some, None, Option, sym, refl, ap, ◌∙◌, subst, inl, inr, arith}
+use Rattle.std.proofs.Common.{◌≡◌, ℕ, zero, suc, ◌+◌, ◌*◌, ◌<◌, ◌≤◌, min, Bool, true, false, cond, eqb, ltb, List, [], ◌∷◌, length, get_or, take, drop, Some, None, Option, sym, refl, ap, ◌∙◌, inl, inr, arith}
 use Rattle.std.proofs.lemmas.Bool.Decides.{nat_tests, leb_tells}
 use Rattle.std.proofs.lemmas.Bool.{and_parts, and_from}
 use Rattle.std.proofs.lemmas.List.{get_or-take, drop-drop, length-drop}
 use Rattle.std.specs.Option.{option_map, option_or}
-use Rattle.question.specs.declared.terms.Term.{Term}
 use Rattle.question.specs.declared.refusals.Refusal.{Refusal}
 use Rattle.question.specs.declared.refusals.Refusal.TheVariants.{CutShort, NoQuestion}
 use Rattle.question.specs.Question.{Line, Question, In}
-use Rattle.question.specs.Sound.{sound, OneWidth, TermsWithin, Allowed}
-use Rattle.question.specs.Layout.{terms_in, terms_fit, line_in, line_fits, lines_in, lines_fit, line_part, question_in}
+use Rattle.question.specs.Sound.{sound, OneWidth, Allowed}
+use Rattle.question.specs.Layout.{terms_in, terms_fit, line_in, lines_in, lines_fit, line_part, question_in}
 use Rattle.question.specs.Check.{agrees, line_good, least_fault, row_good, fault, question_refusal, WritesLine, WritesLines, Writes, IsQuestion}
 use Rattle.question.proofs.Members.{in_cases, in_at}
 use Rattle.question.proofs.Fitting.{line_fits-take}

@@ -2,7 +2,7 @@
 use Rattle.std.proofs.Common.{◌≡◌, ℕ, List, [], ◌∷◌, map, sym, refl, ap, ◌∙◌, subst, ap₂}
 use Rattle.question.specs.declared.terms.Term.{Term}
 use Rattle.question.specs.declared.terms.Term.TheVariants.{Number, Variable}
-use Rattle.question.specs.Question.{Line, Question, Row, Base, Value, all_at, In, Stand, Answers}
+use Rattle.question.specs.Question.{Line, Row, Base, Value, all_at, In, Stand}
 use Rattle.question.proofs.Places.{in_map}
 use Rattle.question.specs.Laws.{MoreRows, Names, AnyNumbers}
 

@@ -1,12 +1,11 @@
 -- A question as it is written is written down there, so that it reads back.
-use Rattle.std.proofs.Common.{◌≡◌, ℕ, zero, suc, ◌+◌, ◌-◌, ◌*◌, ◌<◌, ◌≤◌, List, [], ◌∷◌, ◌++◌, length, get_or, take, drop, replicate, None, sym, refl, ap, ◌∙◌, subst, arith}
+use Rattle.std.proofs.Common.{◌≡◌, ℕ, ◌-◌, ◌*◌, ◌≤◌, List, [], ◌∷◌, ◌++◌, length, get_or, take, drop, replicate, sym, refl, ap, ◌∙◌, subst, arith}
 use Rattle.std.proofs.lemmas.List.{append_assoc, append-nil, take_at, drop_at, get_or_at, length-append}
 use Rattle.question.specs.declared.terms.Term.{Term}
 use Rattle.question.specs.Question.{Line, Question, In}
-use Rattle.question.specs.Sound.{Allowed}
 use Rattle.question.specs.Layout.{question_in, terms_out, padded, line_out, lines_out, question_out}
 use Rattle.question.specs.Reports.{questions_in, questions_out, reports_in, reports_out}
-use Rattle.question.specs.Check.{question_refusal, WritesTerms, WritesLine, WritesLines, Writes}
+use Rattle.question.specs.Check.{WritesTerms, WritesLine, WritesLines, Writes}
 use Rattle.question.specs.Laws.{HasRoom, ReadsBack, ReportsReadBack, WrittenAccepted}
 use Rattle.question.proofs.Written.{writes_question_in}
 use Rattle.question.proofs.Accepted.{not_refused}

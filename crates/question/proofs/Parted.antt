@@ -1,9 +1,9 @@
 -- The parts of a question that is not turned away, as its parts are read.
-use Rattle.std.proofs.Common.{◌≡◌, ℕ, ◌+◌, ◌*◌, ◌<◌, ◌≤◌, true, List, ◌∷◌, length, get_or, take, drop, None, sym, ap, ◌∙◌, arith}
-use Rattle.question.specs.Layout.{terms_in, lines_in, lines_fit, question_in}
+use Rattle.std.proofs.Common.{◌≡◌, ℕ, ◌≤◌, true, List, length, get_or, drop, None, sym, ap}
+use Rattle.question.specs.Layout.{lines_in, lines_fit, question_in}
 use Rattle.question.specs.Check.{question_refusal}
 use Rattle.question.proofs.Decoding.{length-terms_in, length-lines_in}
-use Rattle.question.proofs.Accepted.{Checked, checked}
+use Rattle.question.proofs.Accepted.{checked}
 
 pub row_count : (xs : List ℕ) → question_refusal xs ≡ None → (get_or xs 0 0 ≡ length (question_in xs).row) × (get_or xs 0 0 ≤ 4)
 unfolding question_in

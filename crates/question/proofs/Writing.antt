@@ -1,12 +1,12 @@
 -- What is written, part by part: terms with 0 behind them, a line, lines one after another, a question.
-use Rattle.std.proofs.Common.{◌≡◌, ℕ, zero, suc, ◌+◌, ◌-◌, ◌*◌, ◌<◌, ◌≤◌, true, List, [], ◌∷◌, ◌++◌, length, get_or, take, drop, set, replicate, sym, refl, ap, ◌∙◌, ap₂, arith}
+use Rattle.std.proofs.Common.{◌≡◌, ℕ, zero, suc, ◌+◌, ◌-◌, ◌*◌, ◌<◌, ◌≤◌, true, List, [], ◌∷◌, ◌++◌, length, get_or, take, drop, set, replicate, sym, refl, ap, ◌∙◌, arith}
 use borrow.Rule.Slice.PartMut.{put_mid}
-use Rattle.std.proofs.lemmas.List.{append_assoc, append-nil, drop_all, drop_more, take_more, length-append, length-replicate, length-set, length-drop}
+use Rattle.std.proofs.lemmas.List.{append_assoc, append-nil, drop_all, drop_more, take_more, length-append, length-replicate}
 use Rattle.std.proofs.lemmas.Bool.{and_parts}
 use Rattle.question.specs.declared.terms.Term.{Term}
 use Rattle.question.specs.declared.terms.Term.TheVariants.{Number, Variable}
-use Rattle.question.specs.Question.{Line, Question}
-use Rattle.question.specs.Layout.{terms_in, terms_fit, line_in, line_fits, lines_in, lines_fit, line_part, terms_out, padded, line_out, lines_out, question_out}
+use Rattle.question.specs.Question.{Line}
+use Rattle.question.specs.Layout.{terms_in, terms_fit, line_in, line_fits, lines_in, lines_fit, terms_out, padded, line_out, lines_out}
 use Rattle.question.proofs.Fitting.{line_fits-cells}
 use Rattle.question.proofs.Decoding.{length-terms_in}
 use Rattle.question.proofs.Written.{fits_writes_terms}

@@ -1,5 +1,5 @@
 -- What numbers write down is what lies in them, and what fits is written down.
-use Rattle.std.proofs.Common.{◌≡◌, ℕ, zero, suc, ◌+◌, ◌-◌, ◌*◌, ◌<◌, ◌≤◌, Bool, true, false, ◌&&◌, List, [], ◌∷◌, ◌++◌, length, get_or, take, drop, sym, refl, ap, ◌∙◌, subst, ap₂, arith}
+use Rattle.std.proofs.Common.{◌≡◌, ℕ, zero, suc, ◌*◌, ◌<◌, ◌≤◌, true, List, [], ◌∷◌, length, get_or, take, drop, sym, refl, ap, subst, ap₂, arith}
 use Rattle.std.proofs.lemmas.Bool.Decides.{nat_tests}
 use Rattle.std.proofs.lemmas.Bool.{and_parts, and_from}
 use Rattle.std.proofs.lemmas.List.{length-drop}
@@ -11,7 +11,7 @@ use Rattle.question.specs.Layout.{term_in, term_fits, terms_in, terms_fit, line_
 use Rattle.question.specs.Check.{WritesTerms, WritesLine, WritesLines, Writes}
 use Rattle.question.proofs.Members.{in_cases}
 use Rattle.question.proofs.Fitting.{line_fits-cells}
-use Rattle.question.proofs.Decoding.{length-terms_in, length-lines_in}
+use Rattle.question.proofs.Decoding.{length-terms_in}
 
 -- a term that fits is written by its own numbers
 term_out_in : (limit a b : ℕ) (ts : List Term) → term_fits limit a b ≡ true → terms_out (term_in a b ∷ ts) ≡ a ∷ b ∷ terms_out ts

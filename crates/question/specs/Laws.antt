@@ -1,7 +1,6 @@
 -- Laws of questions, each a statement that a function's contract names. Assumes nothing.
 use Rattle.std.specs.Prelude.{◌≡◌, ℕ, ◌≤◌, List, ◌++◌, map, length, None}
-use Rattle.question.specs.declared.terms.Term.{Term}
-use Rattle.question.specs.declared.terms.Term.TheVariants.{Number, Variable}
+use Rattle.question.specs.declared.terms.Term.TheVariants.{Number}
 use Rattle.question.specs.Question.{Line, Question, Row, Base, Answers, In}
 use Rattle.question.specs.Sound.{Allowed}
 use Rattle.question.specs.Layout.{question_in, question_out}

@@ -3,7 +3,6 @@ use Rattle.std.proofs.Common.{◌≡◌, ℕ, zero, suc, ◌+◌, ◌*◌, ◌<�
 use Rattle.std.proofs.lemmas.Bool.{and_from}
 use Rattle.std.proofs.lemmas.List.{drop_all, drop-drop}
 use Rattle.question.specs.Question.{Line, Question}
-use Rattle.question.specs.Sound.{sound}
 use Rattle.question.specs.Layout.{question_in}
 use Rattle.question.specs.Check.{question_refusal}
 use Rattle.question.specs.Reports.{questions_in}

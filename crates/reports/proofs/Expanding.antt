@@ -4,7 +4,7 @@ use borrow.Author.Tests.{clash}
 use Rattle.question.specs.declared.terms.Term.{Term}
 use Rattle.question.specs.declared.terms.Term.TheVariants.{Number, Variable}
 use Rattle.question.specs.Question.{Line, Question, Row, Base, Value, at, all_at, In, Stand, Answers}
-use Rattle.containment.specs.Reading.{put, all_put, line_put, put_lines}
+use Rattle.containment.specs.Reading.{all_put, line_put, put_lines}
 use Rattle.containment.proofs.Readings.{after, all_at-put, all_at-same, all_put-same, stand-all, into_from, in_put_lines}
 use Rattle.containment.proofs.Chosen.{chosen, chosen_in, every, chosen_every}
 use Rattle.reports.specs.Reports.{no_question, Held, Told, Shaped}

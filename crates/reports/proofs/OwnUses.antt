@@ -4,7 +4,7 @@ use Rattle.std.proofs.lemmas.Bool.{and_parts, and_from}
 use Rattle.question.specs.declared.terms.Term.{Term}
 use Rattle.question.specs.Question.{Line, Question, Base, Value, all_at, In, Stand, Within}
 use Rattle.question.proofs.Members.{in_left, in_right}
-use Rattle.containment.specs.Reading.{put, all_put, line_put, put_lines, Reads}
+use Rattle.containment.specs.Reading.{all_put, line_put, put_lines, Reads}
 use Rattle.containment.specs.OwnTables.{own_tables, question_vars, ToldApart, Avoids, question_numbers, name_past}
 use Rattle.containment.proofs.Readings.{reads-within, reads-sound, length-put, length-put_lines, in_put_lines, put_lines-each, into_from}
 use Rattle.containment.proofs.OwnTables.{read_back, reading, past_row, past_line, backs_at, back-reads, back-own-row, own_answers}

@@ -19,7 +19,7 @@ use Rattle.reports.specs.Reports.{all_sound}
 use Rattle.reports.specs.Expand.{assign, expand_lines, expand, Below, Narrow}
 use Rattle.reports.specs.Widest.{all_lines, all_readings, all_uses, line_nums, line_less, insert_line, sort_lines, widest}
 use Rattle.rewriting.specs.Found.{Found, will_do, choose, find}
-use Rattle.rewriting.specs.Examples.{line, ask, three, Worked, worked, fourth, found_of, Holds, AllHold, holders, one_holder, Fourth}
+use Rattle.rewriting.specs.Examples.{line, ask, three, Worked, fourth, found_of, Holds, AllHold, holders, one_holder, Fourth}
 use Rattle.rewriting.proofs.Finding.{find-right}
 
 -- opens all that computes

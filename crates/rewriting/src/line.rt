@@ -10,10 +10,9 @@ use super::fewest::find;
 use super::reply::Reply;
 use question::{line_at, line_count, line_term, table, width};
 use std::alloc::{AllocError, Global};
-use std::fmt;
 
 // Adds the terms of a line.
-fn write_terms(text: &mut String, line: &[u64]) -> fmt::Result
+fn write_terms(text: &mut String, line: &[u64]) -> Result<(), AllocError>
     requires { (length line.now ≡ 10) × (line_fits 16 line.now ≡ true) }
     ensures { OnOk result (string_bytes text.new ≡ string_bytes text.old ++ terms_text (line_in line.now).cells) }
 {
@@ -25,7 +24,7 @@ fn write_terms(text: &mut String, line: &[u64]) -> fmt::Result
 }
 
 // Adds a use of a report.
-fn write_use(text: &mut String, line: &[u64]) -> fmt::Result
+fn write_use(text: &mut String, line: &[u64]) -> Result<(), AllocError>
     requires { (length line.now ≡ 10) × (line_fits 16 line.now ≡ true) }
     ensures { OnOk result (string_bytes text.new ≡ string_bytes text.old ++ use_text (line_in line.now)) }
 {
@@ -35,7 +34,7 @@ fn write_use(text: &mut String, line: &[u64]) -> fmt::Result
 }
 
 // Adds the uses behind the first.
-fn write_more_uses(text: &mut String, found: &[u64]) -> fmt::Result
+fn write_more_uses(text: &mut String, found: &[u64]) -> Result<(), AllocError>
     requires { question_refusal found.now ≡ None }
     ensures { OnOk result (string_bytes text.new ≡ string_bytes text.old ++ more_uses_text (drop 1 (question_in found.now).lines)) }
 {
@@ -47,7 +46,7 @@ fn write_more_uses(text: &mut String, found: &[u64]) -> fmt::Result
 }
 
 // Adds a question over reports.
-fn write_found(text: &mut String, found: &[u64]) -> fmt::Result
+fn write_found(text: &mut String, found: &[u64]) -> Result<(), AllocError>
     requires { question_refusal found.now ≡ None }
     ensures { OnOk result (string_bytes text.new ≡ string_bytes text.old ++ found_text (question_in found.now)) }
 {
@@ -58,7 +57,7 @@ fn write_found(text: &mut String, found: &[u64]) -> fmt::Result
 }
 
 // Adds what is printed for an answer.
-fn write_reply(text: &mut String, reply: Reply, found: &[u64]) -> fmt::Result
+fn write_reply(text: &mut String, reply: Reply, found: &[u64]) -> Result<(), AllocError>
     requires { (n : ℕ) → reply ≡ By n → question_refusal found.now ≡ None }
     ensures { OnOk result (string_bytes text.new ≡ string_bytes text.old ++ reply_text reply (question_in found.now)) }
 {
@@ -76,8 +75,6 @@ pub fn found_line(heap: Global, question: &[u64], reports: &[u64]) -> Result<Str
     let mut found = [0; 50];
     let reply = find(question, reports, &mut found);
     let mut text = String::new(heap);
-    match write_reply(&mut text, reply, &found) {
-        Ok(()) => Ok(text),
-        Err(_) => Err(AllocError),
-    }
+    write_reply(&mut text, reply, &found)?;
+    Ok(text)
 }

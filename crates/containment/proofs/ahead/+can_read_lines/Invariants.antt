@@ -4,8 +4,8 @@ use Rattle.containment.specs.Search.{read_lines, try_lines}
 use Rattle.containment.specs.Coding.{part_of}
 use Rattle.containment.proofs.ahead.+can_read_lines.Given as goal
 
-abbrev pub decreases-can-read-lines : goal.decreases-can-read-lines
-decreases-can-read-lines l = l.n - l.i
+abbrev pub decreases-can_read_lines : goal.decreases-can_read_lines
+decreases-can_read_lines l = l.n - l.i
 
 abbrev pub invariant-loop-j : goal.invariant-loop-j
 invariant-loop-j l =

@@ -1,12 +1,11 @@
-use Rattle.std.proofs.Common.{◌≡◌, ◌<◌, ◌≤◌, true, ◌++◌, sym, ◌∙◌, add-one, arith}
-use Rattle.question.specs.Sound.{has}
+use Rattle.std.proofs.Common.{◌<◌, ◌++◌, sym, ◌∙◌, add-one, arith}
 use Rattle.question.specs.Layout.{question_in}
 use Rattle.containment.specs.OwnTables.{question_numbers, free_from}
 use Rattle.containment.proofs.Naming.{free_next, free_here, free_above}
 use Rattle.containment.proofs.fresh.free_from.Goals as goal
 
-pub overflow-add-n : goal.overflow-add-n
-overflow-add-n c =
+pub overflow_add-n : goal.overflow_add-n
+overflow_add-n c =
     let ns = question_numbers (question_in c.args.first.now) ++ question_numbers (question_in c.args.second.now) in
     let h : c.loop-n.n < free_from ns c.loop-n.n = free_above ns c.loop-n.n (sym c.named.ensures ∙ c.loop-n-test.true) in
     omega (arith, h, c.loop-n.invariant, c.requires.small)

@@ -4,8 +4,8 @@ use Rattle.question.specs.Layout.{question_in}
 use Rattle.containment.proofs.Numbering.{names_two}
 use Rattle.containment.proofs.fresh.named.Goals as goal
 
-pub returns-then-names-number : goal.returns-then-names-number
-returns-then-names-number c = let e = names_two (question_in c.args.first.now) (question_in c.args.second.now) c.args.n in grind (arith, nat_tests)
+pub returns-then-names_number : goal.returns-then-names_number
+returns-then-names_number c = let e = names_two (question_in c.args.first.now) (question_in c.args.second.now) c.args.n in grind (arith, nat_tests)
 
 pub returns : goal.returns
 returns c = let e = names_two (question_in c.args.first.now) (question_in c.args.second.now) c.args.n in grind (arith, nat_tests)

@@ -1,5 +1,4 @@
-use Rattle.std.proofs.Common.{◌≡◌, ℕ, ◌+◌, ◌<◌, ◌≤◌, true, false, ◌++◌, length, get_or, set, sym, refl, ap, ◌∙◌, arith, length-set}
-use Rattle.question.specs.Question.{Question}
+use Rattle.std.proofs.Common.{◌≡◌, ℕ, ◌+◌, ◌≤◌, ◌++◌, sym, refl, ap, ◌∙◌, arith}
 use Rattle.question.specs.Sound.{has}
 use Rattle.question.specs.Layout.{question_in}
 use Rattle.question.proofs.Accepted.{allowed}
@@ -8,24 +7,24 @@ use Rattle.containment.proofs.Naming.{naming-first, naming-next, naming_skips, s
 use Rattle.containment.proofs.Small.{naming-few}
 use Rattle.containment.proofs.Numbering.{one_name-more}
 use Rattle.containment.proofs.fresh.names.Goals as goal
-use Rattle.containment.proofs.fresh.names.Goals.{then-has-variable, else-has-variable}
+use Rattle.containment.proofs.fresh.names.Goals.{then-has_variable, else-has_variable}
 
 pub loop-x-init : goal.loop-x-init
 loop-x-init c = (naming-first (question_in c.args.first.now) (question_in c.args.second.now), λ y h. absurd (omega arith), refl)
 
-pub free-from-name-requires : goal.free-from-name-requires
-free-from-name-requires c =
+pub free_from-name-requires : goal.free_from-name-requires
+free_from-name-requires c =
     let p = question_in c.args.first.now in
     let q = question_in c.args.second.now in
     let small : naming p q c.loop-x.x ≤ 57 = naming-few p q (allowed c.args.first.now c.requires.0) (allowed c.args.second.now c.requires.1) c.loop-x.x (omega arith) in
     record { checked = c.requires; small = omega (arith, small, c.loop-x.invariant.0) }
 
-pub overflow-add-next : goal.overflow-add-next
-overflow-add-next c =
+pub overflow_add-next : goal.overflow_add-next
+overflow_add-next c =
     let p = question_in c.args.first.now in
     let q = question_in c.args.second.now in
     let small : naming p q c.loop-x.x ≤ 57 = naming-few p q (allowed c.args.first.now c.requires.0) (allowed c.args.second.now c.requires.1) c.loop-x.x (omega arith) in
-    omega (arith, small, c.loop-x.invariant.0, c.free-from-name.ensures)
+    omega (arith, small, c.loop-x.invariant.0, c.free_from-name.ensures)
 
 pub loop-x-preserved : goal.loop-x-preserved
 loop-x-preserved c =
@@ -33,11 +32,11 @@ loop-x-preserved c =
     let q = question_in c.args.second.now in
     let ns = question_numbers p ++ question_numbers q in
     let x = c.loop-x.x in
-    let name : c.free-from-name.result ≡ naming p q x = c.free-from-name.ensures ∙ sym c.loop-x.invariant.0 in
-    let occurs : has (question_vars p) x ≡ c.has-variable.result = sound-vars p (allowed c.args.first.now c.requires.0).is_sound x ∙ sym c.has-variable.ensures in
-    let next : naming p q (x + 1) ≡ free_from ns c.if-has-variable.next = elim c.if-has-variable.branch [
-      | then-has-variable w ↦ naming-next p q x (occurs ∙ w.if-has-variable.true) ∙ ap (λ (n : ℕ). free_from ns (n + 1)) (sym name) ∙ ap (free_from ns) (sym w.next-is)
-      | else-has-variable w ↦ naming_skips p q x (occurs ∙ w.if-has-variable.false) ∙ c.loop-x.invariant.0 ∙ ap (free_from ns) (sym w.next-is)
+    let name : c.free_from-name.result ≡ naming p q x = c.free_from-name.ensures ∙ sym c.loop-x.invariant.0 in
+    let occurs : has (question_vars p) x ≡ c.has_variable.result = sound-vars p (allowed c.args.first.now c.requires.0).is_sound x ∙ sym c.has_variable.ensures in
+    let next : naming p q (x + 1) ≡ free_from ns c.if-has_variable.next = elim c.if-has_variable.branch [
+      | then-has_variable w ↦ naming-next p q x (occurs ∙ w.if-has_variable.true) ∙ ap (λ (n : ℕ). free_from ns (n + 1)) (sym name) ∙ ap (free_from ns) (sym w.next-is)
+      | else-has_variable w ↦ naming_skips p q x (occurs ∙ w.if-has_variable.false) ∙ c.loop-x.invariant.0 ∙ ap (free_from ns) (sym w.next-is)
     ] in
-    let more = one_name-more x c.free-from-name.result c.loop-x.values (naming p q) c.loop-x.invariant.1 c.loop-x.invariant.2 (omega arith) name in
+    let more = one_name-more x c.free_from-name.result c.loop-x.values (naming p q) c.loop-x.invariant.1 c.loop-x.invariant.2 (omega arith) name in
     (next, more.0, more.1)

@@ -3,8 +3,8 @@ use Rattle.question.specs.Layout.{question_in}
 use Rattle.containment.proofs.Numbering.{names_variable, names_found, names_other, names_no_more}
 use Rattle.containment.proofs.fresh.row_names.Goals as goal
 
-pub loop-i-preserved-in-default : goal.loop-i-preserved-in-default
-loop-i-preserved-in-default c = sym (names_variable c.args.n c.loop-i.i (question_in c.args.question.now).row c.in-default.field-0 c.in-default.ensures) ∙ c.loop-i.invariant
+pub loop-i-preserved-in_default : goal.loop-i-preserved-in_default
+loop-i-preserved-in_default c = sym (names_variable c.args.n c.loop-i.i (question_in c.args.question.now).row c.in_default.field-0 c.in_default.ensures) ∙ c.loop-i.invariant
 
 pub returns-then-from-n : goal.returns-then-from-n
 returns-then-from-n c = grind (arith, names_found)

@@ -1,4 +1,4 @@
-use Rattle.std.proofs.Common.{arith, rules}
+use Rattle.std.proofs.Common.{arith}
 use Rattle.containment.specs.Coding.{code}
 use Rattle.containment.proofs.matching.code.Goals as goal
 

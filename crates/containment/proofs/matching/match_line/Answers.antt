@@ -16,8 +16,8 @@ returns-then-table c =
       | then-table-via-else-table+then-n-width w ↦ sym (widths_apart s l m (λ e. w.if-n-width.true (c.width-n.ensures ∙ e ∙ sym w.width.ensures)))
     ]
 
-pub match-terms-requires : goal.match-terms-requires
-match-terms-requires c =
+pub match_terms-requires : goal.match_terms-requires
+match_terms-requires c =
     let f = line_lent 16 c.width-n.result c.args.from.now c.requires.fit.0 c.requires.lent.0 c.width-n.ensures in
     let t = line_lent 256 c.width-n.result c.args.to.now c.requires.fit.1 c.requires.lent.1 (c.if-n-width.false ∙ c.width.ensures) in
     record { lent = (f.room, t.room); fit = (f.fits, t.fits) }
@@ -28,8 +28,8 @@ returns c =
     let t = line_lent 256 c.width-n.result c.args.to.now c.requires.fit.1 c.requires.lent.1 (c.if-n-width.false ∙ c.width.ensures) in
     c.match_terms.ensures ∙ rw (f.is, t.is) (sym (lines_alike (part_of c.args.reading.codes) (line_in c.args.from.now) (line_in c.args.to.now) (cc)))
 
-pub may-put-all-may-requires : goal.may-put-all-may-requires
-may-put-all-may-requires c =
+pub may_put_all-may-requires : goal.may_put_all-may-requires
+may_put_all-may-requires c =
     let f = line_lent 16 c.width-n.result c.args.from.now c.requires.fit.0 c.requires.lent.0 c.width-n.ensures in
     let t = line_lent 256 c.width-n.result c.args.to.now c.requires.fit.1 c.requires.lent.1 (c.if-n-width.false ∙ c.width.ensures) in
     record { lent = (f.room, t.room); fit = (f.fits, t.fits) }
@@ -38,4 +38,4 @@ pub returns-then-not-may : goal.returns-then-not-may
 returns-then-not-may c =
     let f = line_lent 16 c.width-n.result c.args.from.now c.requires.fit.0 c.requires.lent.0 c.width-n.ensures in
     let t = line_lent 256 c.width-n.result c.args.to.now c.requires.fit.1 c.requires.lent.1 (c.if-n-width.false ∙ c.width.ensures) in
-    sym (lines_alike (part_of c.args.reading.codes) (line_in c.args.from.now) (line_in c.args.to.now) (cc) ∙ rw (sym f.is, sym t.is) (c.may-put-all-may.ensures c.if-not-may.true))
+    sym (lines_alike (part_of c.args.reading.codes) (line_in c.args.from.now) (line_in c.args.to.now) (cc) ∙ rw (sym f.is, sym t.is) (c.may_put_all-may.ensures c.if-not-may.true))

@@ -1,20 +1,20 @@
-use Rattle.std.proofs.Common.{sym, ◌∙◌, arith}
+use Rattle.std.proofs.Common.{sym, arith}
 use Rattle.containment.specs.Coding.{part_of}
 use Rattle.containment.proofs.Codes.{number_same, number-other, variable_new, variable_same, variable_other, has-place}
 use Rattle.containment.proofs.matching.match_term.Goals as goal
 
 pub returns-then-code-wanted : goal.returns-then-code-wanted
 returns-then-code-wanted c =
-    sym (number_same (part_of c.args.reading.codes) c.in-default.field-0 c.args.from c.args.to c.in-default.is c.code.ensures.1 c.code-wanted.ensures.1 (cc))
+    sym (number_same (part_of c.args.reading.codes) c.in_default.field-0 c.args.from c.args.to c.in_default.is c.code.ensures.1 c.code-wanted.ensures.1 (cc))
 
 pub returns-else-code-wanted : goal.returns-else-code-wanted
 returns-else-code-wanted c =
-    sym (number-other (part_of c.args.reading.codes) c.in-default.field-0 c.args.from c.args.to c.in-default.is (λ e. c.if-code-wanted.false (cc e)))
+    sym (number-other (part_of c.args.reading.codes) c.in_default.field-0 c.args.from c.args.to c.in_default.is (λ e. c.if-code-wanted.false (cc e)))
 
-pub returns-then-put-ge-NOT-PUT : goal.returns-then-put-ge-NOT-PUT
-returns-then-put-ge-NOT-PUT c =
+pub returns-then-put-ge-NOT_PUT : goal.returns-then-put-ge-NOT_PUT
+returns-then-put-ge-NOT_PUT c =
     let h = has-place c.args.from c.in-Variable.x c.args.reading.codes c.requires c.in-Variable.is c.args.reading.sixteen in
-    rw c.code-wanted.ensures.0 (sym (variable_new c.args.reading.codes c.in-Variable.x c.args.from c.args.to c.in-Variable.is h c.code-wanted.ensures.1 c.if-put-ge-NOT-PUT.true))
+    rw c.code-wanted.ensures.0 (sym (variable_new c.args.reading.codes c.in-Variable.x c.args.from c.args.to c.in-Variable.is h c.code-wanted.ensures.1 c.if-put-ge-NOT_PUT.true))
 
 pub returns-then-put-wanted : goal.returns-then-put-wanted
 returns-then-put-wanted c =

@@ -9,25 +9,25 @@ use Rattle.containment.proofs.Steps.{terms_next, terms_stop, terms_end}
 use Rattle.containment.proofs.Lent.{next-term}
 use Rattle.containment.proofs.matching.match_terms.Goals as goal
 
-pub nth-term-requires : goal.nth-term-requires
-nth-term-requires c = (omega arith, terms_fit-at 256 c.args.n c.loop-i.i c.args.from.now (omega arith) (terms_fit_wider 16 256 c.args.n c.args.from.now (omega arith) c.requires.fit.0))
+pub nth_term-requires : goal.nth_term-requires
+nth_term-requires c = (omega arith, terms_fit-at 256 c.args.n c.loop-i.i c.args.from.now (omega arith) (terms_fit_wider 16 256 c.args.n c.args.from.now (omega arith) c.requires.fit.0))
 
-pub nth-term-requires-in-loop-i : goal.nth-term-requires-in-loop-i
-nth-term-requires-in-loop-i c = (omega arith, terms_fit-at 256 c.args.n c.loop-i.i c.args.to.now (omega arith) c.requires.fit.1)
+pub nth_term-requires-in-loop-i : goal.nth_term-requires-in-loop-i
+nth_term-requires-in-loop-i c = (omega arith, terms_fit-at 256 c.args.n c.loop-i.i c.args.to.now (omega arith) c.requires.fit.1)
 
-pub match-term-requires : goal.match-term-requires
-match-term-requires c = subst (λ (t : Term). TermWithin t) (sym c.nth-term.ensures) (fits-within-term _ _ (terms_fit-at 16 c.args.n c.loop-i.i c.args.from.now (omega arith) c.requires.fit.0))
+pub match_term-requires : goal.match_term-requires
+match_term-requires c = subst (λ (t : Term). TermWithin t) (sym c.nth_term.ensures) (fits-within-term _ _ (terms_fit-at 16 c.args.n c.loop-i.i c.args.from.now (omega arith) c.requires.fit.0))
 
-pub returns-in-default : goal.returns-in-default
-returns-in-default c =
-    let t = next-term c.args.n c.loop-i.i c.args.from.now c.nth-term.result (omega arith) c.nth-term.ensures in
-    let u = next-term c.args.n c.loop-i.i c.args.to.now c.nth-term-in-loop-i.result (omega arith) c.nth-term-in-loop-i.ensures in
-    sym (terms_stop _ c.loop-i.i (terms_in c.args.n c.args.from.now) (terms_in c.args.n c.args.to.now) _ _ t u (sym c.in-default.ensures)) ∙ c.loop-i.invariant
+pub returns-in_default : goal.returns-in_default
+returns-in_default c =
+    let t = next-term c.args.n c.loop-i.i c.args.from.now c.nth_term.result (omega arith) c.nth_term.ensures in
+    let u = next-term c.args.n c.loop-i.i c.args.to.now c.nth_term-in-loop-i.result (omega arith) c.nth_term-in-loop-i.ensures in
+    sym (terms_stop _ c.loop-i.i (terms_in c.args.n c.args.from.now) (terms_in c.args.n c.args.to.now) _ _ t u (sym c.in_default.ensures)) ∙ c.loop-i.invariant
 
 pub loop-i-preserved : goal.loop-i-preserved
 loop-i-preserved c =
-    let t = next-term c.args.n c.loop-i.i c.args.from.now c.nth-term.result (omega arith) c.nth-term.ensures in
-    let u = next-term c.args.n c.loop-i.i c.args.to.now c.nth-term-in-loop-i.result (omega arith) c.nth-term-in-loop-i.ensures in
+    let t = next-term c.args.n c.loop-i.i c.args.from.now c.nth_term.result (omega arith) c.nth_term.ensures in
+    let u = next-term c.args.n c.loop-i.i c.args.to.now c.nth_term-in-loop-i.result (omega arith) c.nth_term-in-loop-i.ensures in
     sym (terms_next _ _ c.loop-i.i (terms_in c.args.n c.args.from.now) (terms_in c.args.n c.args.to.now) _ _ t u (sym c.in-Some.ensures)) ∙ c.loop-i.invariant
 
 pub returns : goal.returns

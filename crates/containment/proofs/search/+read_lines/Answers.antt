@@ -12,29 +12,29 @@ returns-then-i-n t c =
 
 pub loop-j-init : goal.loop-j-init
 loop-j-init t c =
-    let next = next-line 16 c.args.n c.args.i c.args.from.now c.nth-line-line.result.now (omega arith) c.requires.fit.0 c.nth-line-line.ensures.part in
+    let next = next-line 16 c.args.n c.args.i c.args.from.now c.nth_line-line.result.now (omega arith) c.requires.fit.0 c.nth_line-line.ensures.part in
     sym (lines_more (lines_in c.args.n c.args.from.now) _ c.args.i _ _ next)
 
-pub match-line-requires : goal.match-line-requires
-match-line-requires t c =
-    let f = next_fits 16 c.args.n c.args.i c.args.from.now c.nth-line-line.result.now (omega arith) c.requires.fit.0 c.nth-line-line.ensures.part in
-    let g = next_fits 256 c.args.m c.loop-j.j c.args.to.now c.nth-line.result.now (omega arith) c.requires.fit.1 c.nth-line.ensures.part in
-    record { lent = (c.nth-line-line.ensures.ten, c.nth-line.ensures.ten); fit = (f, g) }
+pub match_line-requires : goal.match_line-requires
+match_line-requires t c =
+    let f = next_fits 16 c.args.n c.args.i c.args.from.now c.nth_line-line.result.now (omega arith) c.requires.fit.0 c.nth_line-line.ensures.part in
+    let g = next_fits 256 c.args.m c.loop-j.j c.args.to.now c.nth_line.result.now (omega arith) c.requires.fit.1 c.nth_line.ensures.part in
+    record { lent = (c.nth_line-line.ensures.ten, c.nth_line.ensures.ten); fit = (f, g) }
 
-pub loop-j-preserved-in-default : goal.loop-j-preserved-in-default
-loop-j-preserved-in-default t c =
-    let next = next-line 256 c.args.m c.loop-j.j c.args.to.now c.nth-line.result.now (omega arith) c.requires.fit.1 c.nth-line.ensures.part in
-    sym (try_past _ (lines_in c.args.m c.args.to.now) c.loop-j.j _ _ _ next (sym c.in-default.ensures)) ∙ c.loop-j.invariant
+pub loop-j-preserved-in_default : goal.loop-j-preserved-in_default
+loop-j-preserved-in_default t c =
+    let next = next-line 256 c.args.m c.loop-j.j c.args.to.now c.nth_line.result.now (omega arith) c.requires.fit.1 c.nth_line.ensures.part in
+    sym (try_past _ (lines_in c.args.m c.args.to.now) c.loop-j.j _ _ _ next (sym c.in_default.ensures)) ∙ c.loop-j.invariant
 
 pub loop-j-preserved : goal.loop-j-preserved
 loop-j-preserved t c =
-    let next = next-line 256 c.args.m c.loop-j.j c.args.to.now c.nth-line.result.now (omega arith) c.requires.fit.1 c.nth-line.ensures.part in
-    sym (try_back _ (lines_in c.args.m c.args.to.now) c.loop-j.j _ _ _ _ next (sym c.in-Some.ensures) (sym c.in-default-read-lines.ensures)) ∙ c.loop-j.invariant
+    let next = next-line 256 c.args.m c.loop-j.j c.args.to.now c.nth_line.result.now (omega arith) c.requires.fit.1 c.nth_line.ensures.part in
+    sym (try_back _ (lines_in c.args.m c.args.to.now) c.loop-j.j _ _ _ _ next (sym c.in-Some.ensures) (sym c.in_default-read_lines.ensures)) ∙ c.loop-j.invariant
 
-pub returns-in-Some-read-lines : goal.returns-in-Some-read-lines
-returns-in-Some-read-lines t c =
-    let next = next-line 256 c.args.m c.loop-j.j c.args.to.now c.nth-line.result.now (omega arith) c.requires.fit.1 c.nth-line.ensures.part in
-    sym (try_found _ (lines_in c.args.m c.args.to.now) c.loop-j.j _ _ _ _ _ next (sym c.in-Some.ensures) (sym c.in-Some-read-lines.ensures)) ∙ c.loop-j.invariant
+pub returns-in-Some-read_lines : goal.returns-in-Some-read_lines
+returns-in-Some-read_lines t c =
+    let next = next-line 256 c.args.m c.loop-j.j c.args.to.now c.nth_line.result.now (omega arith) c.requires.fit.1 c.nth_line.ensures.part in
+    sym (try_found _ (lines_in c.args.m c.args.to.now) c.loop-j.j _ _ _ _ _ next (sym c.in-Some.ensures) (sym c.in-Some-read_lines.ensures)) ∙ c.loop-j.invariant
 
 pub returns : goal.returns
 returns t c =

@@ -4,8 +4,8 @@ use Rattle.containment.specs.Search.{read_lines, try_lines}
 use Rattle.containment.specs.Coding.{part_of}
 use Rattle.containment.proofs.search.+read_lines.Given as goal
 
-abbrev pub decreases-read-lines : goal.decreases-read-lines
-decreases-read-lines l = l.n - l.i
+abbrev pub decreases-read_lines : goal.decreases-read_lines
+decreases-read_lines l = l.n - l.i
 
 abbrev pub invariant-loop-j : goal.invariant-loop-j
 invariant-loop-j l =

@@ -7,18 +7,18 @@ use Rattle.containment.specs.Told.{told}
 use Rattle.containment.proofs.Found.{rows_differ, rows_match, told-can_read}
 use Rattle.containment.proofs.search.first_reading.Goals as goal
 
-pub returns-in-default : goal.returns-in-default
-returns-in-default c =
+pub returns-in_default : goal.returns-in_default
+returns-in_default c =
     let q = question_in c.args.question.now in
     let p = question_in c.args.other.now in
-    let e : told None ≡ first_reading q p = sym (rows_differ q p (sym c.in-default.ensures)) in
+    let e : told None ≡ first_reading q p = sym (rows_differ q p (sym c.in_default.ensures)) in
     record { first = e; found = told-can_read q p None e }
 
-pub read-lines-requires : goal.read-lines-requires
-read-lines-requires c =
+pub read_lines-requires : goal.read_lines-requires
+read_lines-requires c =
     record {
-      lent = (omega (arith, c.line-count-n.ensures.1), omega (arith, c.line-count-m.ensures.1));
-      fit = (rw c.line-count-n.ensures.0 c.lines-of.ensures.fit, rw c.line-count-m.ensures.0 (lines-fit_wider 16 256 _ _ (omega arith) c.lines-of-2.ensures.fit));
+      lent = (omega (arith, c.line_count-n.ensures.1), omega (arith, c.line_count-m.ensures.1));
+      fit = (rw c.line_count-n.ensures.0 c.lines_of.ensures.fit, rw c.line_count-m.ensures.0 (lines-fit_wider 16 256 _ _ (omega arith) c.lines_of-2.ensures.fit));
     }
 
 pub returns : goal.returns
@@ -26,5 +26,5 @@ returns c =
     let q = question_in c.args.question.now in
     let p = question_in c.args.other.now in
     let e : told c.read_lines.result ≡ first_reading q p
-    = c.read_lines.ensures ∙ rw (c.line-count-n.ensures.0, c.line-count-m.ensures.0, c.lines-of.ensures.lines, c.lines-of-2.ensures.lines) (sym (rows_match q p (part_of c.in-Some.reading.codes) (sym c.in-Some.ensures))) in
+    = c.read_lines.ensures ∙ rw (c.line_count-n.ensures.0, c.line_count-m.ensures.0, c.lines_of.ensures.lines, c.lines_of-2.ensures.lines) (sym (rows_match q p (part_of c.in-Some.reading.codes) (sym c.in-Some.ensures))) in
     record { first = e; found = told-can_read q p c.read_lines.result e }

@@ -11,15 +11,15 @@ returns-then-table c =
     let e = terms_apart (line_in c.args.a.now).cells (line_in c.args.b.now).cells in
     grind (arith, nat_tests)
 
-pub returns-then-not-same-term : goal.returns-then-not-same-term
+pub returns-then-not-same_term : goal.returns-then-not-same_term
 unfolding line_eqb
-returns-then-not-same-term c =
-    let e = terms_stop c.loop-i.i (line_in c.args.a.now).cells (line_in c.args.b.now).cells c.line-term.result c.line-term-in-loop-i.result c.line-term.ensures c.line-term-in-loop-i.ensures (sym c.same-term.ensures ∙ c.if-not-same-term.true) in
+returns-then-not-same_term c =
+    let e = terms_stop c.loop-i.i (line_in c.args.a.now).cells (line_in c.args.b.now).cells c.line_term.result c.line_term-in-loop-i.result c.line_term.ensures c.line_term-in-loop-i.ensures (sym c.same_term.ensures ∙ c.if-not-same_term.true) in
     grind (arith, nat_tests)
 
 pub loop-i-preserved : goal.loop-i-preserved
 loop-i-preserved c =
-    sym (terms_next c.loop-i.i (line_in c.args.a.now).cells (line_in c.args.b.now).cells c.line-term.result c.line-term-in-loop-i.result c.line-term.ensures c.line-term-in-loop-i.ensures (sym c.same-term.ensures ∙ c.if-not-same-term.false)) ∙ c.loop-i.invariant
+    sym (terms_next c.loop-i.i (line_in c.args.a.now).cells (line_in c.args.b.now).cells c.line_term.result c.line_term-in-loop-i.result c.line_term.ensures c.line_term-in-loop-i.ensures (sym c.same_term.ensures ∙ c.if-not-same_term.false)) ∙ c.loop-i.invariant
 
 pub returns : goal.returns
 unfolding line_eqb

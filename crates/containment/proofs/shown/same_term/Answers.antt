@@ -10,10 +10,10 @@ pub returns-in-Variable-Variable : goal.returns-in-Variable-Variable
 unfolding term_eqb
 returns-in-Variable-Variable c = rw (c.in-Variable-Variable.is-0, c.in-Variable-Variable.is-1)
 
-pub returns-in-default : goal.returns-in-default
+pub returns-in_default : goal.returns-in_default
 unfolding term_eqb
-returns-in-default c = search rules
+returns-in_default c = search rules
 
-pub returns-in-default·2 : goal.returns-in-default·2
+pub returns-in_default-2 : goal.returns-in_default-2
 unfolding term_eqb
-returns-in-default·2 c = search rules
+returns-in_default-2 c = search rules

@@ -10,8 +10,8 @@ use Rattle.containment.proofs.shown.write_table.Goals as goal
 pub bounds-room-0 : goal.bounds-room-0
 bounds-room-0 c = omega (arith, table-long _ _ _ _ c.requires.room)
 
-pub count-rows-requires : goal.count-rows-requires
-count-rows-requires c = (c.requires.lent.0, lines-fit_wider 16 256 c.args.n c.args.lines.now (omega arith) c.requires.lent.1)
+pub count_rows-requires : goal.count_rows-requires
+count_rows-requires c = (c.requires.lent.0, lines-fit_wider 16 256 c.args.n c.args.lines.now (omega arith) c.requires.lent.1)
 
 pub bounds-room-1 : goal.bounds-room-1
 bounds-room-1 c = simp length-set (omega (arith, table-long _ _ _ _ c.requires.room))
@@ -19,26 +19,26 @@ bounds-room-1 c = simp length-set (omega (arith, table-long _ _ _ _ c.requires.r
 pub bounds-room-2 : goal.bounds-room-2
 bounds-room-2 c = simp length-set (omega (arith, table-long _ _ _ _ c.requires.room))
 
-pub slice-bounds-write-rows-count : goal.slice-bounds-write-rows-count
-slice-bounds-write-rows-count c = simp length-set (omega (arith, table-long _ _ _ _ c.requires.room))
+pub slice_bounds-write_rows-count : goal.slice_bounds-write_rows-count
+slice_bounds-write_rows-count c = simp length-set (omega (arith, table-long _ _ _ _ c.requires.room))
 
-pub slice-bounds-write-rows-start : goal.slice-bounds-write-rows-start
-slice-bounds-write-rows-start c = simp length-set (omega (arith, table-long _ _ _ _ c.requires.room))
+pub slice_bounds-write_rows-start : goal.slice_bounds-write_rows-start
+slice_bounds-write_rows-start c = simp length-set (omega (arith, table-long _ _ _ _ c.requires.room))
 
-pub write-rows-requires : goal.write-rows-requires
-write-rows-requires c =
-    record { lent = c.requires.lent; room = rw (behind-three c.table-of.result c.count-rows.result c.width.result c.args.room.now, c.table-of.ensures) (omega (arith, table-long _ _ _ _ c.requires.room)) }
+pub write_rows-requires : goal.write_rows-requires
+write_rows-requires c =
+    record { lent = c.requires.lent; room = rw (behind-three c.table-of.result c.count_rows.result c.width.result c.args.room.now, c.table-of.ensures) (omega (arith, table-long _ _ _ _ c.requires.room)) }
 
-pub overflow-add-result : goal.overflow-add-result
-overflow-add-result c = let e = c.write-rows.ensures.count in omega (arith, table-long _ _ _ _ c.requires.room, rw c.table-of.ensures at e)
+pub overflow_add-result : goal.overflow_add-result
+overflow_add-result c = let e = c.write_rows.ensures.count in omega (arith, table-long _ _ _ _ c.requires.room, rw c.table-of.ensures at e)
 
 pub returns : goal.returns
 unfolding table_out
 returns c =
     let v = value_in c.args.values.now in
     let os = lines_once (lines_in c.args.n c.args.lines.now) in
-    let e = c.write-rows.ensures.count in
+    let e = c.write_rows.ensures.count in
     record {
       count = omega (arith, rw c.table-of.ensures at e);
-      written = three-and-more c.table-of.result c.count-rows.result c.width.result c.args.room.now (cells_out (rows_of v c.table-of.result os)) c.write-rows.new.room c.write-rows.result _ (omega (arith, c.requires.room)) (simp length-set) c.write-rows.ensures.written ∙ rw (c.count-rows.ensures v, c.width.ensures, c.table-of.ensures);
+      written = three-and-more c.table-of.result c.count_rows.result c.width.result c.args.room.now (cells_out (rows_of v c.table-of.result os)) c.write_rows.new.room c.write_rows.result _ (omega (arith, c.requires.room)) (simp length-set) c.write_rows.ensures.written ∙ rw (c.count_rows.ensures v, c.width.ensures, c.table-of.ensures);
     }

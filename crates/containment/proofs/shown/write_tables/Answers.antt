@@ -8,35 +8,35 @@ use Rattle.containment.proofs.OwnNumbers.{lent_few}
 use Rattle.containment.proofs.Turns.{one_and-more, behind_one}
 use Rattle.containment.proofs.shown.write_tables.Goals as goal
 
-pub count-tables-requires : goal.count-tables-requires
-count-tables-requires c =
-    (omega (arith, c.line-count-n.ensures.1, c.lines-of-lines.ensures.long), lines-fit_wider 16 256 c.line-count-n.result c.lines-of-lines.result.now (omega arith) (rw c.line-count-n.ensures.0 c.lines-of-lines.ensures.fit))
+pub count_tables-requires : goal.count_tables-requires
+count_tables-requires c =
+    (omega (arith, c.line_count-n.ensures.1, c.lines_of-lines.ensures.long), lines-fit_wider 16 256 c.line_count-n.result c.lines_of-lines.result.now (omega arith) (rw c.line_count-n.ensures.0 c.lines_of-lines.ensures.fit))
 
-pub write-each-requires : goal.write-each-requires
+pub write_each-requires : goal.write_each-requires
 unfolding tables_out
-write-each-requires c =
+write_each-requires c =
     let v = value_in c.args.values.now in
     let few = lent_few v c.args.question.now c.requires.checked in
     record {
-      lent = (omega (arith, c.line-count-n.ensures.1, c.lines-of-lines.ensures.long), rw c.line-count-n.ensures.0 c.lines-of-lines.ensures.fit);
-      room = rw (behind_one c.count-tables.result c.args.room.now, c.line-count-n.ensures.0, c.lines-of-lines.ensures.lines) (omega (arith, few, c.requires.room));
+      lent = (omega (arith, c.line_count-n.ensures.1, c.lines_of-lines.ensures.long), rw c.line_count-n.ensures.0 c.lines_of-lines.ensures.fit);
+      room = rw (behind_one c.count_tables.result c.args.room.now, c.line_count-n.ensures.0, c.lines_of-lines.ensures.lines) (omega (arith, few, c.requires.room));
     }
 
-pub overflow-add-result : goal.overflow-add-result
+pub overflow_add-result : goal.overflow_add-result
 unfolding tables_out
-overflow-add-result c =
-    let ls : lines_in c.line-count-n.result c.lines-of-lines.result.now ≡ (question_in c.args.question.now).lines = rw c.line-count-n.ensures.0 c.lines-of-lines.ensures.lines in
-    let e = c.write-each.ensures.count in
+overflow_add-result c =
+    let ls : lines_in c.line_count-n.result c.lines_of-lines.result.now ≡ (question_in c.args.question.now).lines = rw c.line_count-n.ensures.0 c.lines_of-lines.ensures.lines in
+    let e = c.write_each.ensures.count in
     omega (arith, rw ls at e, lent_few (value_in c.args.values.now) c.args.question.now c.requires.checked)
 
 pub returns : goal.returns
 unfolding tables_out
 returns c =
     let v = value_in c.args.values.now in
-    let ls : lines_in c.line-count-n.result c.lines-of-lines.result.now ≡ (question_in c.args.question.now).lines = rw c.line-count-n.ensures.0 c.lines-of-lines.ensures.lines in
+    let ls : lines_in c.line_count-n.result c.lines_of-lines.result.now ≡ (question_in c.args.question.now).lines = rw c.line_count-n.ensures.0 c.lines_of-lines.ensures.lines in
     let each : List Line → List ℕ = λ ms. each_out v (lines_once ms) (table_heads ms) in
-    let e = c.write-each.ensures.count in
+    let e = c.write_each.ensures.count in
     record {
       count = omega (arith, rw ls at e);
-      written = one_and-more c.count-tables.result c.args.room.now (each (lines_in c.line-count-n.result c.lines-of-lines.result.now)) c.write-each.new.room c.write-each.result _ (omega (arith, c.requires.room)) (simp length-set) c.write-each.ensures.written ∙ rw (c.count-tables.ensures, ls);
+      written = one_and-more c.count_tables.result c.args.room.now (each (lines_in c.line_count-n.result c.lines_of-lines.result.now)) c.write_each.new.room c.write_each.result _ (omega (arith, c.requires.room)) (simp length-set) c.write_each.ensures.written ∙ rw (c.count_tables.ensures, ls);
     }

@@ -4,13 +4,13 @@ use Rattle.minimization.specs.Meant.{meant}
 use Rattle.minimization.proofs.After.{size_found, size_past, size_end}
 use Rattle.minimization.proofs.choose.first_of_sizes.Goals as goal
 
-pub returns-then-is-some : goal.returns-then-is-some
-returns-then-is-some g c =
-    size_found (g.T.Test.decides c.args.test.now) (lines_in c.args.m c.args.lines.now) c.args.most c.loop-n.n meant c.first-choice-first.result _ (omega arith) c.first-choice-first.ensures (sym c.if-is-some.ensures) c.loop-n.invariant
+pub returns-then-is_some : goal.returns-then-is_some
+returns-then-is_some g c =
+    size_found (g.T.Test.decides c.args.test.now) (lines_in c.args.m c.args.lines.now) c.args.most c.loop-n.n meant c.first_choice-first.result _ (omega arith) c.first_choice-first.ensures (sym c.if-is_some.ensures) c.loop-n.invariant
 
 pub loop-n-preserved : goal.loop-n-preserved
 loop-n-preserved g c =
-    size_past (g.T.Test.decides c.args.test.now) (lines_in c.args.m c.args.lines.now) c.args.most c.loop-n.n meant c.first-choice-first.result _ (omega arith) c.first-choice-first.ensures (sym c.if-is-some.ensures) c.loop-n.invariant
+    size_past (g.T.Test.decides c.args.test.now) (lines_in c.args.m c.args.lines.now) c.args.most c.loop-n.n meant c.first_choice-first.result _ (omega arith) c.first_choice-first.ensures (sym c.if-is_some.ensures) c.loop-n.invariant
 
 pub returns : goal.returns
 returns g c = sym (size_end (g.T.Test.decides c.args.test.now) (lines_in c.args.m c.args.lines.now) c.args.most c.loop-n.n (omega arith)) ∙ c.loop-n.invariant

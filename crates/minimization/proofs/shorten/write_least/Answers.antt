@@ -11,33 +11,33 @@ use Rattle.minimization.proofs.Fewest.{with_lines}
 use Rattle.minimization.proofs.Told.{least_lent, none_lent}
 use Rattle.minimization.proofs.shorten.write_least.Goals as goal
 
-pub first-of-sizes-requires : goal.first-of-sizes-requires
-first-of-sizes-requires c =
+pub first_of_sizes-requires : goal.first_of_sizes-requires
+first_of_sizes-requires c =
     let n : c.args.count ≡ length (question_in c.args.question.now).lines = c.requires.checked.1 in
     let few : c.args.count ≤ 4 = omega (arith, line-number c.args.question.now c.requires.checked.0, n) in
     record {
       asked = c.requires.checked.0;
-      lent = (omega (arith, c.lines-of.ensures.long), rw n c.lines-of.ensures.fit);
+      lent = (omega (arith, c.lines_of.ensures.long), rw n c.lines_of.ensures.fit);
       taken = λ l i. tt;
       size = omega (arith, few);
     }
 
 pub unreachable-requires : goal.unreachable-requires
 unreachable-requires c =
-    none_lent (question_in c.args.question.now) c.args.count c.lines-of.result.now (checked c.args.question.now c.requires.checked.0).is_sound c.requires.checked.1 c.lines-of.ensures.lines c.in-default.ensures
+    none_lent (question_in c.args.question.now) c.args.count c.lines_of.result.now (checked c.args.question.now c.requires.checked.0).is_sound c.requires.checked.1 c.lines_of.ensures.lines c.in_default.ensures
 
 pub returns : goal.returns
 unfolding meant
 returns c =
     let q : Question = question_in c.args.question.now in
-    let is : with_lines q (meant c.in-Some.chosen) ≡ least q = least_lent q c.args.count c.lines-of.result.now (meant c.in-Some.chosen) c.requires.checked.1 c.lines-of.ensures.lines c.in-Some.ensures in
+    let is : with_lines q (meant c.in-Some.chosen) ≡ least q = least_lent q c.args.count c.lines_of.result.now (meant c.in-Some.chosen) c.requires.checked.1 c.lines_of.ensures.lines c.in-Some.ensures in
     record {
       told = sym (length-lines_in c.in-Some.chosen.count c.in-Some.chosen.lines) ∙ ap (λ (p : Question). length p.lines) is;
-      written = rw (← is) c.write-question.ensures;
+      written = rw (← is) c.write_question.ensures;
     }
 
-pub write-question-requires : goal.write-question-requires
-write-question-requires c =
+pub write_question-requires : goal.write_question-requires
+write_question-requires c =
     let chosen = c.in-Some.chosen in
     record {
       checked = c.requires.checked.0;

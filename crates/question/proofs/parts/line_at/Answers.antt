@@ -1,4 +1,4 @@
-use Rattle.std.proofs.Common.{◌≡◌, length, arith}
+use Rattle.std.proofs.Common.{length, arith}
 use Rattle.question.specs.Layout.{question_in}
 use Rattle.question.proofs.Fitting.{lines-fit-at}
 use Rattle.question.proofs.Decoding.{lines_in-next}

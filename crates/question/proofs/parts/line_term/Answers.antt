@@ -1,4 +1,4 @@
-use Rattle.std.proofs.Common.{◌<◌, ◌≤◌, get_or, drop, arith}
+use Rattle.std.proofs.Common.{◌<◌, get_or, drop, arith}
 use Rattle.question.proofs.Fitting.{line_fits-cells}
 use Rattle.question.proofs.Decoding.{length-terms_in, term_lent, term_lent_next}
 use Rattle.question.proofs.parts.line_term.Goals as goal

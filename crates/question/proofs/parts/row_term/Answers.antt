@@ -1,4 +1,4 @@
-use Rattle.std.proofs.Common.{◌≡◌, ◌<◌, ◌≤◌, get_or, drop, arith}
+use Rattle.std.proofs.Common.{◌<◌, get_or, drop, arith}
 use Rattle.question.specs.Layout.{question_in}
 use Rattle.question.proofs.Fitting.{terms_fit_wider}
 use Rattle.question.proofs.Decoding.{term_lent, term_lent_next}

@@ -1,9 +1,9 @@
-use Rattle.std.proofs.Common.{◌≡◌, ℕ, ◌+◌, ◌<◌, List, ◌∷◌, ◌++◌, length, take, drop, set, sym, refl, ap, ◌∙◌, subst, arith}
+use Rattle.std.proofs.Common.{◌≡◌, ◌+◌, ◌∷◌, length, take, drop, sym, refl, ◌∙◌, subst, arith}
 use Rattle.std.proofs.lemmas.List.{take_all}
 use Rattle.question.specs.declared.terms.Term.{Term}
 use Rattle.question.specs.Question.{all_at}
 use Rattle.question.specs.Sound.{TermWithin}
-use Rattle.question.specs.Layout.{terms_in, terms_fit, value_in}
+use Rattle.question.specs.Layout.{terms_in, value_in}
 use Rattle.question.proofs.Fitting.{terms_fit-at, terms_fit_wider}
 use Rattle.question.proofs.Decoding.{terms_in-next, length-terms_in}
 use Rattle.question.proofs.Written.{fits-within-term}

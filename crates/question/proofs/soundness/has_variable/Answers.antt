@@ -1,4 +1,4 @@
-use Rattle.std.proofs.Common.{◌≡◌, ◌≤◌, length, sym, ◌∙◌, arith}
+use Rattle.std.proofs.Common.{length, ◌∙◌, arith}
 use Rattle.question.specs.Layout.{question_in}
 use Rattle.question.proofs.Fitting.{lines-fit_wider}
 use Rattle.question.proofs.soundness.has_variable.Goals as goal

@@ -1,6 +1,4 @@
-use Rattle.std.proofs.Common.{◌≡◌, ◌+◌, ◌∷◌, drop, sym, ap, ◌∙◌, arith}
-use Rattle.question.specs.declared.terms.Term.{Term}
-use Rattle.question.specs.declared.terms.Term.TheVariants.{Number, Variable}
+use Rattle.std.proofs.Common.{sym, ◌∙◌, arith}
 use Rattle.question.specs.Layout.{terms_in}
 use Rattle.question.proofs.Fitting.{terms_fit-at}
 use Rattle.question.proofs.Decoding.{terms_in-next, length-terms_in}

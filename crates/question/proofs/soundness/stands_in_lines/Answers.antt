@@ -1,4 +1,4 @@
-use Rattle.std.proofs.Common.{◌≡◌, ◌+◌, ◌∷◌, drop, sym, ◌∙◌, arith}
+use Rattle.std.proofs.Common.{sym, ◌∙◌, arith}
 use Rattle.question.specs.Layout.{line_in, lines_in}
 use Rattle.question.proofs.Fitting.{lines-fit-at}
 use Rattle.question.proofs.Decoding.{lines_in-next, length-lines_in}

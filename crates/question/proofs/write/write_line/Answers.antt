@@ -1,4 +1,4 @@
-use Rattle.std.proofs.Common.{◌≡◌, ℕ, ◌-◌, ◌*◌, List, ◌∷◌, length, get_or, take, drop, sym, ap, ◌∙◌, ap₂, arith, rules}
+use Rattle.std.proofs.Common.{◌≡◌, length, get_or, drop, ◌∙◌, arith}
 use Rattle.question.specs.Layout.{line_out, line_in}
 use Rattle.question.proofs.Fitting.{line_fits-cells, terms_fit-take}
 use Rattle.question.proofs.Decoding.{length-terms_in, terms_in-take}

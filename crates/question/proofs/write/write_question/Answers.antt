@@ -1,4 +1,4 @@
-use Rattle.std.proofs.Common.{◌≡◌, ℕ, ◌-◌, ◌*◌, ◌≤◌, List, ◌∷◌, ◌++◌, length, get_or, take, drop, sym, ap, ◌∙◌, ap₂, arith}
+use Rattle.std.proofs.Common.{◌≡◌, length, get_or, drop, sym, ap, ◌∙◌, arith}
 use Rattle.question.specs.Layout.{question_in, question_out, lines_in, lines_out, terms_in, terms_out, padded}
 use Rattle.question.proofs.Fitting.{terms_fit-take, terms_fit_wider}
 use Rattle.question.proofs.Decoding.{length-terms_in, length-lines_in, terms_in-take}

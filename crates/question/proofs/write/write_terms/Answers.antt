@@ -1,4 +1,4 @@
-use Rattle.std.proofs.Common.{◌≡◌, ℕ, ◌-◌, ◌*◌, ap, ◌∙◌, arith, rules}
+use Rattle.std.proofs.Common.{◌≡◌, ◌-◌, ◌*◌, ◌∙◌, arith, rules}
 use Rattle.question.proofs.Writing.{terms_written}
 use Rattle.question.proofs.write.write_terms.Goals as goal
 

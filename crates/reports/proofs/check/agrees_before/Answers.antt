@@ -2,11 +2,11 @@ use Rattle.std.proofs.Common.{arith}
 use Rattle.reports.proofs.Widths.{before-next, before_stop, before_end}
 use Rattle.reports.proofs.check.agrees_before.Goals as goal
 
-pub same-widths-requires : goal.same-widths-requires
-same-widths-requires c = (rw c.report-at.ensures.part (c.requires.before c.loop-j.j (omega arith)), c.requires.checked)
+pub same_widths-requires : goal.same_widths-requires
+same_widths-requires c = (rw c.report_at.ensures.part (c.requires.before c.loop-j.j (omega arith)), c.requires.checked)
 
-pub returns-then-not-same-widths : goal.returns-then-not-same-widths
-returns-then-not-same-widths c = grind (arith, before_stop)
+pub returns-then-not-same_widths : goal.returns-then-not-same_widths
+returns-then-not-same_widths c = grind (arith, before_stop)
 
 pub loop-j-preserved : goal.loop-j-preserved
 loop-j-preserved c = grind (arith, before-next)

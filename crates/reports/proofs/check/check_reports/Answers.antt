@@ -13,22 +13,22 @@ returns-then-question-lt50 c =
     let told : reports_refusal c.args.question.now c.args.reports.now ≡ Some (CutShort (length c.args.question.now)) = grind (arith, nat_tests) in
     record { told = told; meant = refused c.args.question.now c.args.reports.now _ told; kept = grind arith }
 
-pub returns-in-default : goal.returns-in-default
+pub returns-in_default : goal.returns-in_default
 unfolding reports_refusal
-returns-in-default c =
-    let told : reports_refusal c.args.question.now c.args.reports.now ≡ Some c.in-default.field-0 = grind (arith, nat_tests) in
-    record { told = simp c.in-default.is told; meant = simp c.in-default.is (refused c.args.question.now c.args.reports.now c.in-default.field-0 told); kept = grind arith }
+returns-in_default c =
+    let told : reports_refusal c.args.question.now c.args.reports.now ≡ Some c.in_default.field-0 = grind (arith, nat_tests) in
+    record { told = simp c.in_default.is told; meant = simp c.in_default.is (refused c.args.question.now c.args.reports.now c.in_default.field-0 told); kept = grind arith }
 
-pub returns-in-default-asked : goal.returns-in-default-asked
+pub returns-in_default-asked : goal.returns-in_default-asked
 unfolding reports_refusal
-returns-in-default-asked c =
-    let told : reports_refusal c.args.question.now c.args.reports.now ≡ Some c.in-default-asked.field-0 = grind (arith, nat_tests) in
-    record { told = simp c.in-default-asked.is told; meant = simp c.in-default-asked.is (refused c.args.question.now c.args.reports.now c.in-default-asked.field-0 told); kept = grind arith }
+returns-in_default-asked c =
+    let told : reports_refusal c.args.question.now c.args.reports.now ≡ Some c.in_default-asked.field-0 = grind (arith, nat_tests) in
+    record { told = simp c.in_default-asked.is told; meant = simp c.in_default-asked.is (refused c.args.question.now c.args.reports.now c.in_default-asked.field-0 told); kept = grind arith }
 
-pub returns-in-default-fault : goal.returns-in-default-fault
+pub returns-in_default-fault : goal.returns-in_default-fault
 unfolding reports_refusal
-returns-in-default-fault c =
-    let told : reports_refusal c.args.question.now c.args.reports.now ≡ Some (NoReport c.unwrap-or.result) = grind (arith, nat_tests) in
+returns-in_default-fault c =
+    let told : reports_refusal c.args.question.now c.args.reports.now ≡ Some (NoReport c.unwrap_or.result) = grind (arith, nat_tests) in
     record { told = told; meant = refused c.args.question.now c.args.reports.now _ told; kept = grind arith }
 
 pub returns : goal.returns

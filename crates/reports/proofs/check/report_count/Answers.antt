@@ -3,9 +3,9 @@ use Rattle.std.proofs.lemmas.Bool.Decides.{nat_tests}
 use Rattle.reports.specs.Check.{reports_short}
 use Rattle.reports.proofs.check.report_count.Goals as goal
 
-pub returns-then-is-empty : goal.returns-then-is-empty
+pub returns-then-is_empty : goal.returns-then-is_empty
 unfolding reports_short
-returns-then-is-empty c = grind (arith, nat_tests)
+returns-then-is_empty c = grind (arith, nat_tests)
 
 pub returns-then-not-few : goal.returns-then-not-few
 unfolding reports_short

@@ -9,33 +9,33 @@ use Rattle.reports.proofs.expand.expand_uses.Goals as goal
 pub loop-k-init : goal.loop-k-init
 loop-k-init c = nothing_yet c.args.reports.now (lines_in c.args.n c.args.uses.now) c.args.out.now
 
-pub report-at-report-requires : goal.report-at-report-requires
-report-at-report-requires c =
-    let u : Used c.args.reports.now c.nth-line-used.result.now = used-at c.args.reports.now c.args.uses.now c.nth-line-used.result.now c.args.n c.loop-k.k c.requires.lent.1 c.requires.fit (omega arith) c.nth-line-used.ensures.part in
+pub report_at-report-requires : goal.report_at-report-requires
+report_at-report-requires c =
+    let u : Used c.args.reports.now c.nth_line-used.result.now = used-at c.args.reports.now c.args.uses.now c.nth_line-used.result.now c.args.n c.loop-k.k c.requires.lent.1 c.requires.fit (omega arith) c.nth_line-used.ensures.part in
     omega (arith, u.below, c.table.ensures, c.requires.checked.long)
 
-pub line-count-requires : goal.line-count-requires
-line-count-requires c =
-    let u : Used c.args.reports.now c.nth-line-used.result.now = used-at c.args.reports.now c.args.uses.now c.nth-line-used.result.now c.args.n c.loop-k.k c.requires.lent.1 c.requires.fit (omega arith) c.nth-line-used.ensures.part in
-    let r : c.report-at-report.result.now ≡ report_part (line_in c.nth-line-used.result.now).table c.args.reports.now = c.report-at-report.ensures.part ∙ ap (λ (t : ℕ). report_part t c.args.reports.now) c.table.ensures in
-    (lent_use c.args.reports.now c.nth-line-used.result.now c.report-at-report.result.now 16 c.requires.checked u c.nth-line-used.ensures.ten r (omega arith)).checked
+pub line_count-requires : goal.line_count-requires
+line_count-requires c =
+    let u : Used c.args.reports.now c.nth_line-used.result.now = used-at c.args.reports.now c.args.uses.now c.nth_line-used.result.now c.args.n c.loop-k.k c.requires.lent.1 c.requires.fit (omega arith) c.nth_line-used.ensures.part in
+    let r : c.report_at-report.result.now ≡ report_part (line_in c.nth_line-used.result.now).table c.args.reports.now = c.report_at-report.ensures.part ∙ ap (λ (t : ℕ). report_part t c.args.reports.now) c.table.ensures in
+    (lent_use c.args.reports.now c.nth_line-used.result.now c.report_at-report.result.now 16 c.requires.checked u c.nth_line-used.ensures.ten r (omega arith)).checked
 
-pub put-use-requires : goal.put-use-requires
-put-use-requires c =
-    let u : Used c.args.reports.now c.nth-line-used.result.now = used-at c.args.reports.now c.args.uses.now c.nth-line-used.result.now c.args.n c.loop-k.k c.requires.lent.1 c.requires.fit (omega arith) c.nth-line-used.ensures.part in
-    let r : c.report-at-report.result.now ≡ report_part (line_in c.nth-line-used.result.now).table c.args.reports.now = c.report-at-report.ensures.part ∙ ap (λ (t : ℕ). report_part t c.args.reports.now) c.table.ensures in
+pub put_use-requires : goal.put_use-requires
+put_use-requires c =
+    let u : Used c.args.reports.now c.nth_line-used.result.now = used-at c.args.reports.now c.args.uses.now c.nth_line-used.result.now c.args.n c.loop-k.k c.requires.lent.1 c.requires.fit (omega arith) c.nth_line-used.ensures.part in
+    let r : c.report_at-report.result.now ≡ report_part (line_in c.nth_line-used.result.now).table c.args.reports.now = c.report_at-report.ensures.part ∙ ap (λ (t : ℕ). report_part t c.args.reports.now) c.table.ensures in
     record {
-      fits = lent_use c.args.reports.now c.nth-line-used.result.now c.report-at-report.result.now _ c.requires.checked u c.nth-line-used.ensures.ten r (omega arith);
+      fits = lent_use c.args.reports.now c.nth_line-used.result.now c.report_at-report.result.now _ c.requires.checked u c.nth_line-used.ensures.ten r (omega arith);
       room = simp (length-take, length-drop) (omega (arith, c.line_count.ensures.0, c.line_count.ensures.1, c.loop-k.invariant.few, c.loop-k.auto.out));
     }
 
 pub loop-k-preserved : goal.loop-k-preserved
 loop-k-preserved c =
     let l : length (lines_in c.args.n c.args.uses.now) ≡ c.args.n = length-lines_in c.args.n c.args.uses.now in
-    let u : Used c.args.reports.now c.nth-line-used.result.now = used-at c.args.reports.now c.args.uses.now c.nth-line-used.result.now c.args.n c.loop-k.k c.requires.lent.1 c.requires.fit (omega arith) c.nth-line-used.ensures.part in
-    let r : c.report-at-report.result.now ≡ report_part (line_in c.nth-line-used.result.now).table c.args.reports.now = c.report-at-report.ensures.part ∙ ap (λ (t : ℕ). report_part t c.args.reports.now) c.table.ensures in
-    one_more c.args.reports.now (lines_in c.args.n c.args.uses.now) c.loop-k.k c.loop-k.count c.line_count.result _ c.args.out.now c.loop-k.out c.nth-line-used.result.now c.report-at-report.result.now c.put-use.new.out c.loop-k.invariant
-    (omega arith) (use_next c.args.n c.loop-k.k c.args.uses.now c.nth-line-used.result.now (omega arith) c.requires.lent.1 c.nth-line-used.ensures.part) u r c.line_count.ensures.0 c.line_count.ensures.1 c.put-use.ensures (omega arith) (omega arith)
+    let u : Used c.args.reports.now c.nth_line-used.result.now = used-at c.args.reports.now c.args.uses.now c.nth_line-used.result.now c.args.n c.loop-k.k c.requires.lent.1 c.requires.fit (omega arith) c.nth_line-used.ensures.part in
+    let r : c.report_at-report.result.now ≡ report_part (line_in c.nth_line-used.result.now).table c.args.reports.now = c.report_at-report.ensures.part ∙ ap (λ (t : ℕ). report_part t c.args.reports.now) c.table.ensures in
+    one_more c.args.reports.now (lines_in c.args.n c.args.uses.now) c.loop-k.k c.loop-k.count c.line_count.result _ c.args.out.now c.loop-k.out c.nth_line-used.result.now c.report_at-report.result.now c.put_use.new.out c.loop-k.invariant
+    (omega arith) (use_next c.args.n c.loop-k.k c.args.uses.now c.nth_line-used.result.now (omega arith) c.requires.lent.1 c.nth_line-used.ensures.part) u r c.line_count.ensures.0 c.line_count.ensures.1 c.put_use.ensures (omega arith) (omega arith)
 
 pub returns : goal.returns
 returns c =

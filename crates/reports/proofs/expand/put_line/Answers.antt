@@ -8,8 +8,8 @@ use Rattle.containment.proofs.Readings.{length-put}
 use Rattle.reports.specs.Uses.{lent_put}
 use Rattle.reports.proofs.expand.put_line.Goals as goal
 
-pub put-terms-requires : goal.put-terms-requires
-put-terms-requires c =
+pub put_terms-requires : goal.put_terms-requires
+put_terms-requires c =
     let f = line_fits-cells 16 c.args.line.now c.requires.lent.1 in
     let w : c.width.result ≡ get_or c.args.line.now 1 0 = c.width.ensures ∙ length-terms_in _ _ in
     record {
@@ -27,4 +27,4 @@ returns c =
     let n : length (all_put h (line_in c.args.line.now).cells) ≡ get_or c.args.line.now 1 0 = length-put h (line_in c.args.line.now).cells ∙ l in
     let w : c.width.result ≡ get_or c.args.line.now 1 0 = c.width.ensures ∙ l in
     let t = terms_in-take (get_or c.args.line.now 1 0) 8 (drop 2 c.args.line.now) (omega (arith, f.1)) in
-    two_and-room (get_or c.args.line.now 0 0) (get_or c.args.line.now 1 0) c.args.out.now c.put-terms.new.out c.requires.room ∙ rw (c.put-terms.ensures, w, t, n)
+    two_and-room (get_or c.args.line.now 0 0) (get_or c.args.line.now 1 0) c.args.out.now c.put_terms.new.out c.requires.room ∙ rw (c.put_terms.ensures, w, t, n)

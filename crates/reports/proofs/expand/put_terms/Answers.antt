@@ -17,23 +17,23 @@ pub loop-i-init : goal.loop-i-init
 unfolding terms_out all_put
 loop-i-init c = refl
 
-pub nth-term-requires : goal.nth-term-requires
-nth-term-requires c =
+pub nth_term-requires : goal.nth_term-requires
+nth_term-requires c =
     (omega arith, terms_fit-at 256 c.args.n c.loop-i.i c.args.terms.now (omega arith) (terms_fit_wider 16 256 c.args.n c.args.terms.now (omega arith) c.requires.lent.1))
 
-pub put-term-term-requires : goal.put-term-term-requires
-put-term-term-requires c =
-    record { fits = c.requires.fits; small = subst (λ (t : Term). TermWithin t) (sym c.nth-term.ensures) (fits-within-term _ _ (terms_fit-at 16 c.args.n c.loop-i.i c.args.terms.now (omega arith) c.requires.lent.1)) }
+pub put_term-term-requires : goal.put_term-term-requires
+put_term-term-requires c =
+    record { fits = c.requires.fits; small = subst (λ (t : Term). TermWithin t) (sym c.nth_term.ensures) (fits-within-term _ _ (terms_fit-at 16 c.args.n c.loop-i.i c.args.terms.now (omega arith) c.requires.lent.1)) }
 
 pub loop-i-preserved : goal.loop-i-preserved
 loop-i-preserved c =
     let ts = terms_in c.args.n c.args.terms.now in
     let l : length ts ≡ c.args.n = length-terms_in c.args.n c.args.terms.now in
     let h = lent_put c.args.report.now c.args.used.now c.args.base in
-    let next : drop c.loop-i.i ts ≡ c.nth-term.result ∷ drop (c.loop-i.i + 1) ts = rw c.nth-term.ensures (terms_in-next c.args.n c.loop-i.i c.args.terms.now (omega arith)) in
-    let y = ap (λ (u : Term). terms_out (u ∷ [])) (sym c.put-term-term.ensures) ∙ c.numbers-of-kind.ensures in
-    ap (λ (xs : List ℕ). set (set xs (2 * c.loop-i.i) c.numbers-of-kind.result.0) (2 * c.loop-i.i + 1) c.numbers-of-kind.result.1) c.loop-i.invariant
-    ∙ term-more h c.loop-i.i c.numbers-of-kind.result.0 c.numbers-of-kind.result.1 ts c.nth-term.result c.args.out.now (omega arith) next y (omega arith)
+    let next : drop c.loop-i.i ts ≡ c.nth_term.result ∷ drop (c.loop-i.i + 1) ts = rw c.nth_term.ensures (terms_in-next c.args.n c.loop-i.i c.args.terms.now (omega arith)) in
+    let y = ap (λ (u : Term). terms_out (u ∷ [])) (sym c.put_term-term.ensures) ∙ c.numbers_of-kind.ensures in
+    ap (λ (xs : List ℕ). set (set xs (2 * c.loop-i.i) c.numbers_of-kind.result.0) (2 * c.loop-i.i + 1) c.numbers_of-kind.result.1) c.loop-i.invariant
+    ∙ term-more h c.loop-i.i c.numbers_of-kind.result.0 c.numbers_of-kind.result.1 ts c.nth_term.result c.args.out.now (omega arith) next y (omega arith)
 
 pub returns : goal.returns
 returns c =

@@ -14,18 +14,18 @@ pub loop-i-init : goal.loop-i-init
 unfolding lines_out
 loop-i-init c = (refl, refl)
 
-pub put-line-requires : goal.put-line-requires
-put-line-requires c = record { fits = c.requires.fits; lent = (c.line-at.ensures.ten, c.line-at.ensures.fits); room = omega arith }
+pub put_line-requires : goal.put_line-requires
+put_line-requires c = record { fits = c.requires.fits; lent = (c.line_at.ensures.ten, c.line_at.ensures.fits); room = omega arith }
 
 pub loop-i-preserved : goal.loop-i-preserved
 unfolding line_put
 loop-i-preserved c =
     let h = lent_put c.args.report.now c.args.used.now c.args.base in
     let ls = (question_in c.args.report.now).lines in
-    let l = line_in c.line-at.result.now in
+    let l = line_in c.line_at.result.now in
     let n : length (put_lines h ls) ≡ length ls = length-put_lines h ls in
-    let few : length (line_put h l).cells ≤ 4 = rw (length-put h l.cells, length-terms_in (get_or c.line-at.result.now 1 0) (drop 2 c.line-at.result.now)) (line_fits-cells 16 c.line-at.result.now c.line-at.ensures.fits).1 in
-    simp c.put-line.ensures (line-more c.loop-i.i (10 * c.loop-i.i + 10 - 10 * c.loop-i.i) (put_lines h ls) (line_put h l) c.args.out.now c.loop-i.out (omega arith) (put_lines-next h c.loop-i.i ls l c.line-at.ensures.line) few (omega arith) c.loop-i.invariant)
+    let few : length (line_put h l).cells ≤ 4 = rw (length-put h l.cells, length-terms_in (get_or c.line_at.result.now 1 0) (drop 2 c.line_at.result.now)) (line_fits-cells 16 c.line_at.result.now c.line_at.ensures.fits).1 in
+    simp c.put_line.ensures (line-more c.loop-i.i (10 * c.loop-i.i + 10 - 10 * c.loop-i.i) (put_lines h ls) (line_put h l) c.args.out.now c.loop-i.out (omega arith) (put_lines-next h c.loop-i.i ls l c.line_at.ensures.line) few (omega arith) c.loop-i.invariant)
 
 pub returns : goal.returns
 returns c =

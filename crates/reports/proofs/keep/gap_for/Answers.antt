@@ -8,42 +8,42 @@ use Rattle.reports.specs.Uses.{lines_kept}
 use Rattle.reports.proofs.Inserting.{insert_here, insert_there, insert_past, insert_end}
 use Rattle.reports.proofs.keep.gap_for.Goals as goal
 
-pub line-before-requires : goal.line-before-requires
-line-before-requires c =
+pub line_before-requires : goal.line_before-requires
+line_before-requires c =
     let u = c.args.uses.now in
-    let f = next_fits 16 u.count c.loop-i.i u.lines c.nth-line-other.result.now (omega arith) u.fit c.nth-line-other.ensures.part in
-    record { lent = (c.requires.0, c.nth-line-other.ensures.ten); fit = (c.requires.1, f) }
+    let f = next_fits 16 u.count c.loop-i.i u.lines c.nth_line-other.result.now (omega arith) u.fit c.nth_line-other.ensures.part in
+    record { lent = (c.requires.0, c.nth_line-other.ensures.ten); fit = (c.requires.1, f) }
 
-pub returns-then-line-before : goal.returns-then-line-before
-returns-then-line-before c =
+pub returns-then-line_before : goal.returns-then-line_before
+returns-then-line_before c =
     let u = c.args.uses.now in
     let l = line_in c.args.line.now in
-    let m = line_in c.nth-line-other.result.now in
-    let next = next-line 16 u.count c.loop-i.i u.lines c.nth-line-other.result.now (omega arith) u.fit c.nth-line-other.ensures.part in
-    (omega arith, c.loop-i.invariant ∙ ap (λ (ms : List Line). take c.loop-i.i (lines_kept u) ++ ms) (insert_here l m c.loop-i.i (lines_kept u) next (sym c.if-line-before.ensures)))
+    let m = line_in c.nth_line-other.result.now in
+    let next = next-line 16 u.count c.loop-i.i u.lines c.nth_line-other.result.now (omega arith) u.fit c.nth_line-other.ensures.part in
+    (omega arith, c.loop-i.invariant ∙ ap (λ (ms : List Line). take c.loop-i.i (lines_kept u) ++ ms) (insert_here l m c.loop-i.i (lines_kept u) next (sym c.if-line_before.ensures)))
 
-pub line-before-later-requires : goal.line-before-later-requires
-line-before-later-requires c =
+pub line_before-later-requires : goal.line_before-later-requires
+line_before-later-requires c =
     let u = c.args.uses.now in
-    let f = next_fits 16 u.count c.loop-i.i u.lines c.nth-line-other.result.now (omega arith) u.fit c.nth-line-other.ensures.part in
-    record { lent = (c.nth-line-other.ensures.ten, c.requires.0); fit = (f, c.requires.1) }
+    let f = next_fits 16 u.count c.loop-i.i u.lines c.nth_line-other.result.now (omega arith) u.fit c.nth_line-other.ensures.part in
+    record { lent = (c.nth_line-other.ensures.ten, c.requires.0); fit = (f, c.requires.1) }
 
 pub returns-then-not-later : goal.returns-then-not-later
 returns-then-not-later c =
     let u = c.args.uses.now in
     let l = line_in c.args.line.now in
-    let m = line_in c.nth-line-other.result.now in
-    let next = next-line 16 u.count c.loop-i.i u.lines c.nth-line-other.result.now (omega arith) u.fit c.nth-line-other.ensures.part in
-    c.loop-i.invariant ∙ insert_there l m c.loop-i.i (lines_kept u) next (sym c.if-line-before.ensures) (sym c.if-not-later.ensures)
+    let m = line_in c.nth_line-other.result.now in
+    let next = next-line 16 u.count c.loop-i.i u.lines c.nth_line-other.result.now (omega arith) u.fit c.nth_line-other.ensures.part in
+    c.loop-i.invariant ∙ insert_there l m c.loop-i.i (lines_kept u) next (sym c.if-line_before.ensures) (sym c.if-not-later.ensures)
 
 pub loop-i-preserved : goal.loop-i-preserved
 loop-i-preserved c =
     let u = c.args.uses.now in
     let l = line_in c.args.line.now in
-    let m = line_in c.nth-line-other.result.now in
+    let m = line_in c.nth_line-other.result.now in
     let n : length (lines_kept u) ≡ u.count = length-lines_in u.count u.lines in
-    let next = next-line 16 u.count c.loop-i.i u.lines c.nth-line-other.result.now (omega arith) u.fit c.nth-line-other.ensures.part in
-    c.loop-i.invariant ∙ insert_past l m c.loop-i.i (lines_kept u) (omega arith) next (sym c.if-line-before.ensures) (sym c.if-not-later.ensures)
+    let next = next-line 16 u.count c.loop-i.i u.lines c.nth_line-other.result.now (omega arith) u.fit c.nth_line-other.ensures.part in
+    c.loop-i.invariant ∙ insert_past l m c.loop-i.i (lines_kept u) (omega arith) next (sym c.if-line_before.ensures) (sym c.if-not-later.ensures)
 
 pub returns : goal.returns
 returns c =

@@ -2,9 +2,9 @@ use Rattle.std.proofs.Common.{refl, arith}
 use Rattle.question.specs.Layout.{lines_in, lines_fit}
 use Rattle.reports.proofs.keep.no_uses.Goals as goal
 
-pub invariant-of-result : goal.invariant-of-result
+pub invariant_of-result : goal.invariant_of-result
 unfolding lines_fit
-invariant-of-result c = (omega arith, (refl, (refl, tt)))
+invariant_of-result c = record { few = omega arith; room = refl; fit = refl }
 
 pub returns : goal.returns
 unfolding lines_in

@@ -1,5 +1,5 @@
 use Rattle.std.proofs.Common.{◌≡◌, ℕ, ◌<◌, ◌≤◌, List, length, get_or, Some, None, sym, refl, ap, ◌∙◌, subst, arith}
-use Rattle.question.specs.declared.refusals.Refusal.TheVariants.{TooWide}
+use Rattle.question.specs.declared.refusals.Refusal.TheVariants.{NoRoomForQuestion}
 use Rattle.question.specs.Refusals.{number}
 use Rattle.question.specs.Question.{Line, Question, In}
 use Rattle.question.specs.Layout.{question_in}
@@ -10,9 +10,10 @@ use Rattle.reports.specs.Check.{report_part}
 use Rattle.reports.specs.Widest.{widest, IsTooWide}
 use Rattle.reports.specs.Uses.{lines_kept}
 use Rattle.reports.proofs.Lent.{length-reports_in, passed}
+use Rattle.rewriting.specs.declared.reply.Reply.TheVariants as answer
 use Rattle.rewriting.specs.Found.{find}
 use Rattle.rewriting.specs.Answer.{find_refusal, find_says, find_leaves, Meant}
-use Rattle.rewriting.proofs.Telling.{counted, kept-widest, refused_first, refused_room, refused_wide, refused_not, not_wide, meant-found}
+use Rattle.rewriting.proofs.Telling.{numbered, counted, kept-widest, refused_first, refused_room, refused_wide, refused_not, not_wide, meant-found}
 use Rattle.rewriting.proofs.fewest.find.Goals as goal
 
 pub returns-in-Err : goal.returns-in-Err
@@ -20,8 +21,10 @@ unfolding find_says find_leaves Meant
 returns-in-Err c =
     let some = c.in-Err.ensures.told in
     let e = refused_first c.args.question.now c.args.reports.now c.args.out.now c.in-Err.refusal some in
+    let told : answer.Refused c.in-Err.refusal ≡ find_says c.args.question.now c.args.reports.now c.args.out.now = rw e in
     record {
-      told = rw e;
+      told = told;
+      numbered = numbered _ _ _ told;
       written = rw e;
       meant = record { same = refl; why = e; wide = λ p. absurd (not_wide c.args.question.now c.args.reports.now c.in-Err.refusal some p) };
     }
@@ -30,7 +33,8 @@ pub returns-then-out-lt50 : goal.returns-then-out-lt50
 unfolding find_says find_leaves Meant
 returns-then-out-lt50 c =
     let e = refused_room c.args.question.now c.args.reports.now c.args.out.now c.in-Ok.ensures.told.0 c.if-out-lt50.true in
-    record { told = rw e; written = rw e; meant = record { same = refl; why = e; wide = λ p. let z : ◌≡◌ {A = ℕ} 4 5 = ap number p in absurd (omega arith) } }
+    let told : answer.Refused (NoRoomForQuestion (length c.args.out.now)) ≡ find_says c.args.question.now c.args.reports.now c.args.out.now = rw e in
+    record { told = told; numbered = numbered _ _ _ told; written = rw e; meant = record { same = refl; why = e; wide = λ p. let z : ◌≡◌ {A = ℕ} 4 5 = ap number p in absurd (omega arith) } }
 
 pub widest-requires : goal.widest-requires
 unfolding report_part
@@ -44,8 +48,8 @@ widest-requires c =
       lent = (omega (arith, n, kept.few), omega (arith, n, kept.long));
     }
 
-pub write-fewest-requires : goal.write-fewest-requires
-write-fewest-requires c =
+pub write_fewest-requires : goal.write_fewest-requires
+write_fewest-requires c =
     let reports = c.args.reports.now in
     let told = c.in-Ok.ensures.told in
     record {
@@ -67,10 +71,12 @@ returns-in-Ok-widest c =
     let is : lines_kept uses ≡ ws = kept-widest c.in-Ok.count reports q (lines_kept uses) told.1 c.in-Ok-widest.ensures.told in
     let few : length ws ≤ 32 = omega (arith, ap length is, length-lines_in uses.count uses.lines, uses.few) in
     let e : find_refusal question reports out ≡ None = refused_not question reports out told.0 c.if-out-lt50.false few in
+    let says : c.write_fewest.result ≡ find_says question reports out = rw e c.write_fewest.ensures.told in
     record {
-      told = rw e c.write-fewest.ensures.told;
-      written = rw e c.write-fewest.ensures.written;
-      meant = meant-found question reports out _ _ (find (reports_in reports) 16 16 q) told.0 (λ l i. fits-within-lines uses.count uses.lines uses.fit l (subst (λ (ls : List Line). In l ls) (sym is) i)) refl c.write-fewest.ensures.told c.write-fewest.ensures.written;
+      told = says;
+      numbered = numbered _ _ _ says;
+      written = rw e c.write_fewest.ensures.written;
+      meant = meant-found question reports out _ _ (find (reports_in reports) 16 16 q) told.0 (λ l i. fits-within-lines uses.count uses.lines uses.fit l (subst (λ (ls : List Line). In l ls) (sym is) i)) refl c.write_fewest.ensures.told c.write_fewest.ensures.written;
     }
 
 pub returns-in-Err-widest : goal.returns-in-Err-widest
@@ -84,8 +90,10 @@ returns-in-Err-widest c =
     let h = subst (λ (rs : List Question). 32 < length (widest rs (question_in question)).lines) same c.in-Err-widest.ensures.told.1 in
     let is = c.in-Err-widest.ensures.told.0 in
     let e : find_refusal question reports out ≡ Some c.in-Err-widest.refusal = refused_wide question reports out told.0 c.if-out-lt50.false h ∙ ap Some (sym is) in
+    let says : answer.Refused c.in-Err-widest.refusal ≡ find_says question reports out = rw e in
     record {
-      told = rw e;
+      told = says;
+      numbered = numbered _ _ _ says;
       written = rw e;
       meant = record { same = refl; why = e; wide = λ _. subst (λ (rs : List Question). IsTooWide rs (question_in question)) same c.in-Err-widest.ensures.meant };
     }

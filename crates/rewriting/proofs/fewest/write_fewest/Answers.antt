@@ -1,4 +1,4 @@
-use Rattle.std.proofs.Common.{◌≡◌, length, Some, None, sym, ap, ◌∙◌, arith}
+use Rattle.std.proofs.Common.{◌≡◌, Some, None, arith}
 use Rattle.question.specs.Layout.{question_in}
 use Rattle.question.specs.Reports.{reports_in}
 use Rattle.question.proofs.Decoding.{length-lines_in}
@@ -9,18 +9,18 @@ use Rattle.rewriting.specs.Found.{over_lines, find}
 use Rattle.rewriting.proofs.Telling.{own-uses, found-by}
 use Rattle.rewriting.proofs.fewest.write_fewest.Goals as goal
 
-pub first-of-sizes-requires : goal.first-of-sizes-requires
-first-of-sizes-requires c =
+pub first_of_sizes-requires : goal.first_of_sizes-requires
+first_of_sizes-requires c =
     let uses = c.args.uses.now in
     record {
       asked = c.requires.checked;
       lent = (omega (arith, uses.few, uses.room), uses.fit);
       taken = own-uses c.args.reports.now (question_in c.args.question.now) (lines_kept uses) c.requires.checked.1 c.requires.wide;
-      size = omega (arith, c.line-count-most.ensures.1);
+      size = omega (arith, c.line_count-most.ensures.1);
     }
 
-pub write-question-requires : goal.write-question-requires
-write-question-requires c =
+pub write_question-requires : goal.write_question-requires
+write_question-requires c =
     let chosen = c.in-Some.chosen in
     record {
       checked = c.requires.checked.0;
@@ -28,11 +28,11 @@ write-question-requires c =
       room = (chosen.few, c.requires.room);
     }
 
-pub returns-in-default : goal.returns-in-default
-returns-in-default c =
+pub returns-in_default : goal.returns-in_default
+returns-in_default c =
     let q = question_in c.args.question.now in
     let rs = reports_in c.args.reports.now in
-    let e : find rs 16 16 q ≡ None = found-by rs q (lines_kept c.args.uses.now) c.line-count-most.result None c.requires.wide c.line-count-most.ensures.0 c.in-default.ensures in
+    let e : find rs 16 16 q ≡ None = found-by rs q (lines_kept c.args.uses.now) c.line_count-most.result None c.requires.wide c.line_count-most.ensures.0 c.in_default.ensures in
     record { told = rw e; written = rw e }
 
 pub returns : goal.returns
@@ -41,5 +41,5 @@ returns c =
     let q = question_in c.args.question.now in
     let rs = reports_in c.args.reports.now in
     let chosen = c.in-Some.chosen in
-    let e : find rs 16 16 q ≡ Some (over_lines q (meant chosen)) = found-by rs q (lines_kept c.args.uses.now) c.line-count-most.result (Some (meant chosen)) c.requires.wide c.line-count-most.ensures.0 c.in-Some.ensures in
-    record { told = rw (e, length-lines_in chosen.count chosen.lines); written = rw e c.write-question.ensures }
+    let e : find rs 16 16 q ≡ Some (over_lines q (meant chosen)) = found-by rs q (lines_kept c.args.uses.now) c.line_count-most.result (Some (meant chosen)) c.requires.wide c.line_count-most.ensures.0 c.in-Some.ensures in
+    record { told = rw (e, length-lines_in chosen.count chosen.lines); written = rw e c.write_question.ensures }

@@ -8,5 +8,5 @@ pub returns : goal.returns
 returns c =
     let before = string_bytes c.args.text.now in
     let l = line_in c.args.line.now in
-    then_added c.write-terms.result before (string_bytes c.write.new.self) _ (codes " R" ++ decimal l.table) (terms_text l.cells)
-    (c.in-ok-write.ensures.bytes ∙ ap (λ (n : ℕ). before ++ (codes " R" ++ decimal n)) c.table-report.ensures) c.write-terms.ensures
+    then_added c.write_terms.result before (string_bytes c.write.new.self) _ (codes " R" ++ decimal l.table) (terms_text l.cells)
+    (c.in_ok-write.ensures.bytes ∙ ap (λ (n : ℕ). before ++ (codes " R" ++ decimal n)) c.table-report.ensures) c.write_terms.ensures

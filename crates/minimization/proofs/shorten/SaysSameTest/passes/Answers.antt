@@ -5,8 +5,8 @@ use Rattle.minimization.proofs.shorten.SaysSameTest.passes.Goals as goal
 
 pub returns : goal.returns
 unfolding says_same
-returns c = c.reads-into.ensures
+returns c = c.reads_into.ensures
 
-pub reads-into-requires : goal.reads-into-requires
-reads-into-requires c =
+pub reads_into-requires : goal.reads_into-requires
+reads_into-requires c =
     record { checked = c.requires.asked; lent = (c.requires.lent.1.0, lines-fit_wider 16 256 c.args.n c.args.lines.now (omega arith) c.requires.lent.1.1) }

@@ -9,8 +9,8 @@ use Rattle.reports.proofs.OwnUses.{use_fit}
 use Rattle.rewriting.specs.Found.{over_lines, will_do}
 use Rattle.rewriting.proofs.fewest.WillDoTest.passes.Goals as goal
 
-pub expand-uses-count-requires : goal.expand-uses-count-requires
-expand-uses-count-requires c =
+pub expand_uses-count-requires : goal.expand_uses-count-requires
+expand_uses-count-requires c =
     let rs = reports_in c.args.self.now.reports.now in
     let q = question_in c.args.self.now.question.now in
     record {
@@ -24,4 +24,4 @@ pub returns : goal.returns
 unfolding will_do expand
 returns c =
     let q = question_in c.args.self.now.question.now in
-    c.reads-into.ensures ∙ ap (λ (ls : List Line). can_read q (over_lines q ls)) c.expand-uses-count.ensures.lines
+    c.reads_into.ensures ∙ ap (λ (ls : List Line). can_read q (over_lines q ls)) c.expand_uses-count.ensures.lines

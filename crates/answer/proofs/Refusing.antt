@@ -1,5 +1,5 @@
 -- How the question and the tables are turned away: which refusals there are.
-use Rattle.std.proofs.Common.{◌≡◌, ℕ, Bool, true, false, cond, ltb, List, length, get_or, drop, Some, None, Ok, Err, Option, Result, refl, subst, arith, MatchResult}
+use Rattle.std.proofs.Common.{◌≡◌, ℕ, Bool, true, false, cond, ltb, List, length, get_or, drop, Some, None, Ok, Err, Option, Result, refl, subst, MatchResult}
 use Rattle.std.specs.Option.{option_or, option_map}
 use Rattle.question.specs.declared.refusals.Refusal.{Refusal}
 use Rattle.question.specs.declared.refusals.Refusal.TheVariants.{CutShort, NoQuestion, NoReport, NoRoomForQuestion, TooWide, NoRoomForRow, TableTooLarge, NoRoomForTables, NoMemory}

@@ -1,5 +1,5 @@
 -- Rows that the join puts out, as rows that a question answers.
-use Rattle.std.proofs.Common.{◌≡◌, ℕ, suc, ◌+◌, ◌-◌, ◌*◌, ◌<◌, ◌≤◌, ◌⊎◌, List, [], ◌∷◌, map, length, get_or, take, drop, sym, refl, ap, ◌∙◌, subst, inl, inr, mul-le-mul_right, arith}
+use Rattle.std.proofs.Common.{◌≡◌, ℕ, suc, ◌+◌, ◌-◌, ◌*◌, ◌<◌, ◌≤◌, ◌⊎◌, List, [], ◌∷◌, map, length, get_or, drop, sym, refl, ap, ◌∙◌, subst, inl, inr, mul-le-mul_right, arith}
 use Rattle.std.specs.List.{range_with_len}
 use Rattle.std.proofs.lemmas.List.FromFn.{length-map-range_with_len, get_or-map-range_with_len}
 use Rattle.std.proofs.lemmas.List.{length-take-le, length-drop, get_or-take, get_or-drop, ext_get_or}
@@ -10,7 +10,7 @@ use Rattle.join.specs.Order.{Value, Before, cells}
 use Rattle.join.specs.RowsOut as join
 use Rattle.answer.specs.Plan.{Plan, Planned, places}
 use Rattle.answer.specs.Laws.{asked_by, Copied}
-use Rattle.answer.specs.Answered.{row_in, Lower, Among, BehindAll, FirstRows, AllRows, NoRoom}
+use Rattle.answer.specs.Answered.{row_in, Among, BehindAll, FirstRows, AllRows, NoRoom}
 use Rattle.answer.proofs.ByPlan.{plan_answers}
 
 length-places : (place : Term → ℕ) (ts : List Term) → length (places place ts) ≡ length ts

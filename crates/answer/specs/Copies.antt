@@ -1,5 +1,5 @@
 -- The tables' rows that a line may stand on, copied among the rows of the join: the line's number, the cells in the line's own order, then zeros. Assumes nothing: these are definitions.
-use Rattle.std.specs.Prelude.{◌≡◌, ℕ, ◌+◌, ◌<◌, ◌≤◌, List, [], length, slice_index}
+use Rattle.std.specs.Prelude.{◌≡◌, ℕ, ◌+◌, ◌<◌, ◌≤◌, List, length, slice_index}
 use Rattle.join.specs.Order.{row_at}
 use Rattle.question.specs.Question.{Line, Row, Base, Value, In, all_at}
 

@@ -1,5 +1,5 @@
 -- How lent tables are turned away. Assumes nothing: these are definitions.
-use Rattle.std.specs.Prelude.{ℕ, zero, suc, ◌+◌, Bool, true, cond, ◌&&◌, List, [], length, drop, Some, None, Option, nat_le, slice_index}
+use Rattle.std.specs.Prelude.{ℕ, zero, suc, ◌+◌, Bool, true, cond, ◌&&◌, List, length, drop, Some, None, Option, nat_le, slice_index}
 use Rattle.std.specs.Option.{option_map, option_or}
 use Rattle.question.specs.declared.refusals.Refusal.{Refusal}
 use Rattle.question.specs.declared.refusals.Refusal.TheVariants.{CutShort, TableTooLarge}

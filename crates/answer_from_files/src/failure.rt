@@ -11,7 +11,7 @@ pub enum Failure {
     System(io::Error),
 }
 
-// As `report` writes it on standard error.
+// As it is written on standard error where `main` returns it.
 impl fmt::Debug for Failure {
     fn fmt<W: fmt::Write>(&self, f: &mut fmt::Formatter<W>) -> fmt::Result {
         match self {

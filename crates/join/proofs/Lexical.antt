@@ -1,5 +1,5 @@
 -- The order of `sort` on rows, and the first place where they differ.
-use Rattle.std.proofs.Common.{◌≡◌, ℕ, zero, suc, ◌+◌, ◌<◌, ◌≤◌, true, List, [], ◌∷◌, length, get_or, Ordering, Less, Equal, Greater, refl, ◌∙◌, arith}
+use Rattle.std.proofs.Common.{◌≡◌, ℕ, zero, suc, ◌<◌, true, List, [], ◌∷◌, length, get_or, Ordering, Less, Equal, Greater, refl, ◌∙◌, arith}
 use Rattle.std.specs.Ordering.{is_lt, MatchOrdering, ordering_then, nat_cmp}
 use Rattle.std.specs.Cmp.{ranks, nat_cmp_total}
 use Rattle.std.specs.Cmp.Lexicographic.{slice_cmp, lists_total}

@@ -1,5 +1,5 @@
 -- The first values in order that are wanted. Assumes nothing: these are definitions.
-use Rattle.std.specs.Prelude.{◌≡◌, ℕ, ◌+◌, ◌^◌, ◌<◌, ◌≤◌, Bool, true, List, [], ◌∷◌, length, Some, None, Option, slice_index, slice_index_or}
+use Rattle.std.specs.Prelude.{◌≡◌, ℕ, ◌^◌, ◌<◌, ◌≤◌, Bool, true, List, [], length, Some, None, Option, slice_index, slice_index_or}
 use Rattle.join.specs.Order.{Value, Before, cells, row_at}
 use Rattle.join.specs.Slots.{Agree, AllStand, SlotsBelow, slot}
 

@@ -1,5 +1,5 @@
 -- Rows in lexicographic order, told by the first place where they differ. Assumes nothing: these are definitions.
-use Rattle.std.specs.Prelude.{◌≡◌, ℕ, ◌+◌, ◌<◌, ◌≤◌, List, [], ◌∷◌, length, slice_index, slice_index_or}
+use Rattle.std.specs.Prelude.{◌≡◌, ℕ, ◌<◌, ◌≤◌, List, [], length, slice_index, slice_index_or}
 
 abbrev pub Value : Type 0
 Value = ℕ → ℕ

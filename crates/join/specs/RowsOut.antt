@@ -1,5 +1,5 @@
 -- The rows of the values under which all lines stand, one after the other in lent memory. Assumes nothing: these are definitions.
-use Rattle.std.specs.Prelude.{◌≡◌, ℕ, ◌+◌, ◌*◌, ◌<◌, ◌≤◌, ◌⊎◌, List, [], ◌∷◌, length, Ok, Err, Result, slice_index}
+use Rattle.std.specs.Prelude.{◌≡◌, ℕ, ◌+◌, ◌*◌, ◌<◌, ◌≤◌, ◌⊎◌, List, length, Ok, Err, Result, slice_index}
 use Rattle.join.specs.Order.{Value, Before}
 use Rattle.join.specs.Slots.{Agree, AllStand, slot}
 

@@ -1,5 +1,5 @@
 -- Lines that name five slots each, a table of rows of five numbers, and values of the slots under which every line's row stands in the table. Assumes nothing: these are definitions.
-use Rattle.std.specs.Prelude.{◌≡◌, ℕ, ◌+◌, ◌^◌, ◌<◌, ◌≤◌, List, [], ◌∷◌, length, Some, None, Option, slice_index, slice_index_or}
+use Rattle.std.specs.Prelude.{◌≡◌, ℕ, ◌<◌, ◌≤◌, List, [], ◌∷◌, length, Some, None, Option, slice_index, slice_index_or}
 use Rattle.join.specs.Order.{Value, row_at}
 
 -- the slot of a line's column

@@ -49,7 +49,7 @@ pub fn put_out(
     requires table { (Sorted rows.now) × ((AllBelow n lines.now) × (Covered lines.now k shown)) }
     requires counts { (k ≤ shown) × ((n ≤ 24) × ((shown ≤ n) × (Blank k env.now))) }
     requires asked { (AllShown row.now k shown) × (((c : ℕ) → c < length row.now → slot row.now c < shown)) }
-    ensures { PutOut (record { rows = rows.entry.now; lines = lines.now; k = k; env = env.now; row = row.now }) out.old out.new result }
+    ensures { PutOut (record { rows = rows.now; lines = lines.now; k = k; env = env.now; row = row.now }) out.old out.new result }
 {
     small_rows(rows);
     let width = row.len();

@@ -8,7 +8,7 @@ use Rattle.join.specs.RowsOut.{Among, Answered, PutOut, Standing, row_of}
 use Rattle.join.proofs.Bounds.{all-stand, line_of}
 use Rattle.join.proofs.Ordering.{cases_eq}
 use Rattle.narrow.specs.Rows.{Held, SameRows}
-use Rattle.narrow.specs.Joining.{Apart, Either, Free, Gathered, Joint, Merged, Replaced, WithinBoth, number}
+use Rattle.narrow.specs.Joining.{Apart, Either, Free, Gathered, Joint, Merged, Replaced, WithinBoth}
 use Rattle.narrow.specs.Narrowed.{Narrowed, asked}
 
 pub held : (rows : List (List ℕ)) (line : List ℕ) (v : Value) → Stands rows line v → Held rows (λ c. v (slot line c))

@@ -1,8 +1,8 @@
 -- The slots of the new line, gathered one by one.
-use Rattle.std.proofs.Common.{◌≡◌, ℕ, ◌+◌, ◌<◌, ◌≤◌, ◌≢◌, ◌⊎◌, List, [], length, get_or, set, sym, refl, ap, ◌∙◌, subst, inl, inr, arith, length-set, get_or-set_other, get_or-set_same}
+use Rattle.std.proofs.Common.{◌≡◌, ℕ, ◌+◌, ◌<◌, ◌≤◌, ◌≢◌, ◌⊎◌, List, [], length, get_or, set, sym, ap, ◌∙◌, subst, inl, inr, arith, length-set, get_or-set_other, get_or-set_same}
 use Rattle.std.proofs.lemmas.Bool.{cases_lt}
 use Rattle.join.specs.Slots.{slot}
-use Rattle.join.specs.FirstValues.{AllBelow, Names}
+use Rattle.join.specs.FirstValues.{AllBelow}
 use Rattle.narrow.specs.Joining.{Either, Free, Gathered, WithinBoth}
 
 -- the slot is at one of the first w columns

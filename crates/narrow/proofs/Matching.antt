@@ -2,10 +2,10 @@
 use Rattle.std.proofs.Common.{◌≡◌, ℕ, zero, suc, ◌+◌, ◌<◌, ◌≤◌, ◌≢◌, ◌⊎◌, List, [], ◌∷◌, ◌++◌, length, get_or, IfSome, Some, None, Option, sym, refl, ap, ◌∙◌, subst, inl, inr, arith}
 use Rattle.std.proofs.lemmas.Bool.{cases_lt}
 use Rattle.join.specs.Order.{Value, Before, Sorted, cells, row_at}
-use Rattle.join.specs.Slots.{Agree, Stands, slot, under}
+use Rattle.join.specs.Slots.{slot, under}
 use Rattle.join.proofs.Bounds.{under_at}
-use Rattle.narrow.specs.Rows.{Fits, Held, Keyed, SameRows, with_front}
-use Rattle.narrow.specs.Joining.{Both, Either, Joined, Joint, Matched, Merged, Met, MetKey, MetRow, Others, Pair, Paired, WithinBoth, number, row_by}
+use Rattle.narrow.specs.Rows.{Held, Keyed, SameRows, with_front}
+use Rattle.narrow.specs.Joining.{Both, Joined, Matched, Merged, Others, Pair, Paired, WithinBoth, number, row_by}
 use Rattle.narrow.proofs.Holding.{held-front, held_last, held_cases, held_none, held_same}
 
 pub some_so : {A : Type 0} (o : Option A) (P Q : A → Type 0) → ((v : A) → P v → Q v) → IfSome o P → IfSome o Q

@@ -1,9 +1,8 @@
 -- The values of the slots of two lines that stand on two rows.
-use Rattle.std.proofs.Common.{◌≡◌, ℕ, ◌+◌, ◌<◌, ◌≤◌, ◌≢◌, ◌⊎◌, List, [], length, get_or, set, Some, None, sym, refl, ap, ◌∙◌, subst, inl, inr, arith, get_or-set_other, get_or-set_same}
+use Rattle.std.proofs.Common.{◌≡◌, ℕ, ◌+◌, ◌<◌, ◌≤◌, ◌≢◌, List, length, get_or, set, Some, sym, refl, ap, ◌∙◌, subst, inl, inr, arith, get_or-set_other, get_or-set_same}
 use Rattle.std.proofs.lemmas.Bool.{cases_lt}
 use Rattle.join.specs.Order.{Value, cells}
 use Rattle.join.specs.Slots.{Agree, slot}
-use Rattle.join.specs.FirstValues.{Names}
 use Rattle.join.proofs.Ordering.{cases_eq}
 use Rattle.narrow.specs.Rows.{Fits}
 use Rattle.narrow.specs.Joining.{Both, Either, Pair}

@@ -1,10 +1,10 @@
 -- Sorted rows gone through, those that are repeated left out; and rows keyed.
-use Rattle.std.proofs.Common.{◌≡◌, ℕ, zero, suc, ◌+◌, ◌-◌, ◌<◌, ◌≤◌, ◌≢◌, ◌⊎◌, List, [], ◌∷◌, ◌++◌, length, get_or, sym, refl, ap, ◌∙◌, subst, inl, inr, arith}
+use Rattle.std.proofs.Common.{◌≡◌, ℕ, ◌+◌, ◌-◌, ◌<◌, ◌≢◌, List, [], ◌∷◌, ◌++◌, length, get_or, sym, ap, ◌∙◌, subst, inl, inr, arith}
 use Rattle.std.proofs.lemmas.Bool.{cases_lt}
-use Rattle.join.specs.Order.{Value, Before, Sorted, cells, row_at}
+use Rattle.join.specs.Order.{Value, Sorted, cells, row_at}
 use Rattle.join.proofs.Progress.{before_same}
 use Rattle.narrow.specs.Rows.{Held, Keyed, SameRows, Source, with_front}
-use Rattle.narrow.proofs.Holding.{held-front, held_last, held_cases, held_none, held_same, held_at, sorted_more}
+use Rattle.narrow.proofs.Holding.{held-front, held_last, held_cases, held_none, held_same, sorted_more}
 
 -- one of the first i rows
 pub record BeforePlace (rows : List (List ℕ)) (i : ℕ) (f : Value) : Type 0 where

@@ -1,5 +1,5 @@
 -- Which rows a list of rows has, told by their five numbers. Assumes nothing: these are definitions.
-use Rattle.std.specs.Prelude.{◌≡◌, ℕ, zero, suc, ◌<◌, List, [], length, get_or}
+use Rattle.std.specs.Prelude.{◌≡◌, ℕ, zero, suc, ◌<◌, List, length}
 use Rattle.join.specs.Order.{Value, row_at}
 use Rattle.join.specs.Slots.{slot}
 

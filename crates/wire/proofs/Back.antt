@@ -1,7 +1,7 @@
 -- What is written in bytes is read back as the lent numbers have it.
 use Rattle.std.proofs.Common.{◌≡◌, ℕ, suc, ◌+◌, ◌-◌, ◌*◌, ◌/◌, ◌%◌, ◌<◌, ◌≤◌, true, leb, List, [], ◌∷◌, ◌++◌, length, replicate, Some, refl, ap, ◌∙◌, mod-eq_of_lt, arith}
 use native.Mathlib.Nat.{div-div-eq-div-mul, mod-add-div'}
-use Rattle.std.proofs.lemmas.List.{append_assoc, take_all, length-append, length-replicate}
+use Rattle.std.proofs.lemmas.List.{append_assoc, take_all, length-append}
 use Rattle.std.proofs.lemmas.Bool.Decides.{nat_tests}
 use Rattle.question.specs.declared.terms.Term.{Term}
 use Rattle.question.specs.declared.terms.Term.TheVariants.{Number, Variable}

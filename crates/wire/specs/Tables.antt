@@ -1,5 +1,5 @@
 -- The text form of a table, one row a line: how it is read, and how it is written. Assumes nothing: these are definitions.
-use Rattle.std.specs.Prelude.{◌≡◌, ℕ, zero, suc, ◌+◌, ◌-◌, ◌*◌, cond, ◌&&◌, ◌||◌, List, [], ◌∷◌, ◌++◌, length, take, Some, None, Ok, Err, vec_items, decimal, Option, Result, ◌==◌, nat_le, nat_lt, slice_index}
+use Rattle.std.specs.Prelude.{◌≡◌, ℕ, ◌+◌, ◌-◌, ◌*◌, cond, ◌&&◌, ◌||◌, List, [], ◌∷◌, ◌++◌, length, take, Some, None, Ok, Err, vec_items, decimal, Option, Result, ◌==◌, nat_le, nat_lt, slice_index}
 use Rattle.question.specs.Tables.{rows_in}
 use Rattle.wire.specs.declared.tables.Table.{Table}
 use Rattle.wire.specs.declared.tables.TableFault.{TableFault}

@@ -12,9 +12,9 @@ pub returns-then-not-whole : goal.returns-then-not-whole
 unfolding answer_refusal
 returns-then-not-whole c = grind (arith, nat_tests)
 
-pub returns-in-default : goal.returns-in-default
+pub returns-in_default : goal.returns-in_default
 unfolding answer_refusal
-returns-in-default c = simp c.in-default.is (grind (arith, nat_tests))
+returns-in_default c = simp c.in_default.is (grind (arith, nat_tests))
 
 pub returns : goal.returns
-returns c = by-tables c.args.question.now c.args.tables.now c.check-tables.result (get_or c.args.tables.now 0 0) (grind (arith, nat_tests)) (grind (arith, nat_tests)) c.in-Ok.ensures.told.0 c.check-tables.ensures
+returns c = by-tables c.args.question.now c.args.tables.now c.check_tables.result (get_or c.args.tables.now 0 0) (grind (arith, nat_tests)) (grind (arith, nat_tests)) c.in-Ok.ensures.told.0 c.check_tables.ensures

@@ -7,5 +7,5 @@ loop-i-init c = (refl, columns-first c.args.w c.requires, λ a b h. absurd (omeg
 
 pub loop-i-preserved : goal.loop-i-preserved
 loop-i-preserved c =
-    let e = c.least-first.ensures in
-    (c.least-first.array_long, e.columns, rising-next c.args.slots.now c.loop-i.cols c.least-first.new.cols c.loop-i.i c.args.w c.loop-i.invariant.2 e.before e.least e.above)
+    let e = c.least_first.ensures in
+    (c.least_first.array_long, e.columns, rising-next c.args.slots.now c.loop-i.cols c.least_first.new.cols c.loop-i.i c.args.w c.loop-i.invariant.2 e.before e.least e.above)

@@ -1,4 +1,4 @@
-use Rattle.std.proofs.Common.{◌≡◌, ◌∙◌}
+use Rattle.std.proofs.Common.{◌≡◌}
 use Rattle.question.specs.Layout.{line_in}
 use Rattle.answer.proofs.Takings.{takes-number, takes-variable}
 use Rattle.answer.proofs.copies.cell_passes.Goals as goal
@@ -10,4 +10,4 @@ returns-in-Number c =
 
 pub returns-in-Variable : goal.returns-in-Variable
 returns-in-Variable c =
-    rw c.one-number.ensures (takes-variable c.args.i (line_in c.args.line.now).cells c.args.row.now c.requires.wide.1 c.in-Variable.x c.in-Variable.ensures)
+    rw c.one_number.ensures (takes-variable c.args.i (line_in c.args.line.now).cells c.args.row.now c.requires.wide.1 c.in-Variable.x c.in-Variable.ensures)

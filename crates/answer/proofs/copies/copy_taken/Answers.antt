@@ -1,4 +1,4 @@
-use Rattle.std.proofs.Common.{◌≡◌, true, false, [], ◌∷◌, vec_items, sym, ◌∙◌, arith}
+use Rattle.std.proofs.Common.{◌≡◌, true, false, vec_items, sym, arith}
 use Rattle.std.proofs.lemmas.Bool.Decides.{nat_tests}
 use Rattle.std.proofs.lemmas.List.{append-nil}
 use Rattle.question.specs.Layout.{line_in}
@@ -6,10 +6,10 @@ use Rattle.answer.specs.Taking.{takes}
 use Rattle.answer.proofs.Copying.{copies-taken, copies-left}
 use Rattle.answer.proofs.copies.copy_taken.Goals as goal
 
-pub returns-in-ok-push : goal.returns-in-ok-push
-returns-in-ok-push c _ =
+pub returns-in_ok-push : goal.returns-in_ok-push
+returns-in_ok-push c _ =
     let taken : takes (line_in c.args.line.now).cells c.args.row.now ≡ true = grind (arith, nat_tests) in
-    rw (copies-taken c.args.id c.args.cols.now (line_in c.args.line.now).cells c.args.row.now taken, sym c.copy_row.ensures) c.in-ok-push.ensures.items
+    rw (copies-taken c.args.id c.args.cols.now (line_in c.args.line.now).cells c.args.row.now taken, sym c.copy_row.ensures) c.in_ok-push.ensures.items
 
 pub returns-else-taken : goal.returns-else-taken
 returns-else-taken c _ =

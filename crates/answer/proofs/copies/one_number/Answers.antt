@@ -4,9 +4,9 @@ use Rattle.answer.proofs.Takings.{number-next, variable-next, variable-stop, one
 use Rattle.answer.proofs.copies.one_number.Goals as goal
 use Rattle.answer.proofs.copies.one_number.Goals.{else-y-x-via-then-y-x+else-row-i, else-y-x-via-else-y-x}
 
-pub loop-i-preserved-in-default : goal.loop-i-preserved-in-default
-loop-i-preserved-in-default c =
-    sym (number-next c.args.x c.args.number c.loop-i.i (line_in c.args.line.now).cells c.args.row.now (omega arith) c.in-default.field-0 c.in-default.ensures) ∙ c.loop-i.invariant
+pub loop-i-preserved-in_default : goal.loop-i-preserved-in_default
+loop-i-preserved-in_default c =
+    sym (number-next c.args.x c.args.number c.loop-i.i (line_in c.args.line.now).cells c.args.row.now (omega arith) c.in_default.field-0 c.in_default.ensures) ∙ c.loop-i.invariant
 
 pub returns-then-row-i : goal.returns-then-row-i
 returns-then-row-i c =

@@ -1,4 +1,4 @@
-use Rattle.std.proofs.Common.{◌≡◌, ◌≤◌, drop}
+use Rattle.std.proofs.Common.{◌≡◌, drop}
 use Rattle.question.specs.Layout.{line_in}
 use Rattle.answer.specs.Taking.{one_number}
 use Rattle.answer.proofs.copies.one_number.Given as goal

@@ -1,10 +1,9 @@
 use Rattle.std.proofs.Common.{length, ap, arith}
-use Rattle.answer.specs.Terms.{code}
 use Rattle.answer.proofs.Gathering.{put-none}
 use Rattle.answer.proofs.terms.put_term.Goals as goal
 
-pub put-in-requires : goal.put-in-requires
-put-in-requires c =
+pub put_in-requires : goal.put_in-requires
+put_in-requires c =
     let e = c.wanted.ensures.yes c.if-wanted.true in
     (omega (arith, ap length e), c.requires.1)
 
@@ -12,7 +11,7 @@ pub returns-then-wanted : goal.returns-then-wanted
 returns-then-wanted c =
     let e = c.wanted.ensures.yes c.if-wanted.true in
     let h = c.code.ensures in
-    rw (e, ← h) c.put-in.ensures
+    rw (e, ← h) c.put_in.ensures
 
 pub returns : goal.returns
 returns c =

@@ -11,21 +11,21 @@ pub loop-i-init : goal.loop-i-init
 unfolding codes_of
 loop-i-init c = put-none c.args.codes.now c.args.n c.requires.room.1
 
-pub nth-term-requires : goal.nth-term-requires
-nth-term-requires c = (omega arith, terms_fit-at 256 c.args.w c.loop-i.i c.args.terms.now (omega arith) (terms_fit_wider 16 256 c.args.w c.args.terms.now (omega arith) c.requires.lent.1))
+pub nth_term-requires : goal.nth_term-requires
+nth_term-requires c = (omega arith, terms_fit-at 256 c.args.w c.loop-i.i c.args.terms.now (omega arith) (terms_fit_wider 16 256 c.args.w c.args.terms.now (omega arith) c.requires.lent.1))
 
-pub put-term-count-requires : goal.put-term-count-requires
-put-term-count-requires c =
+pub put_term-count-requires : goal.put_term-count-requires
+put_term-count-requires c =
     let ts = terms_in c.args.w c.args.terms.now in
-    let next : drop c.loop-i.i ts ≡ c.nth-term.result ∷ drop (c.loop-i.i + 1) ts = rw c.nth-term.ensures (terms_in-next c.args.w c.loop-i.i c.args.terms.now (omega arith)) in
-    (codes_room c.args.numbers c.loop-i.i c.args.n c.loop-i.count 24 ts c.nth-term.result next c.loop-i.invariant.most c.requires.room.0, c.loop-i.invariant.blank)
+    let next : drop c.loop-i.i ts ≡ c.nth_term.result ∷ drop (c.loop-i.i + 1) ts = rw c.nth_term.ensures (terms_in-next c.args.w c.loop-i.i c.args.terms.now (omega arith)) in
+    (codes_room c.args.numbers c.loop-i.i c.args.n c.loop-i.count 24 ts c.nth_term.result next c.loop-i.invariant.most c.requires.room.0, c.loop-i.invariant.blank)
 
 pub loop-i-preserved : goal.loop-i-preserved
 loop-i-preserved c =
     let ts = terms_in c.args.w c.args.terms.now in
     let l : length ts ≡ c.args.w = length-terms_in c.args.w c.args.terms.now in
-    let next : drop c.loop-i.i ts ≡ c.nth-term.result ∷ drop (c.loop-i.i + 1) ts = rw c.nth-term.ensures (terms_in-next c.args.w c.loop-i.i c.args.terms.now (omega arith)) in
-    put-more c.args.numbers c.args.codes.now c.loop-i.codes c.put-term-count.new.codes c.args.n c.loop-i.count c.put-term-count.result c.loop-i.i ts c.nth-term.result next (omega arith) c.loop-i.invariant c.put-term-count.ensures
+    let next : drop c.loop-i.i ts ≡ c.nth_term.result ∷ drop (c.loop-i.i + 1) ts = rw c.nth_term.ensures (terms_in-next c.args.w c.loop-i.i c.args.terms.now (omega arith)) in
+    put-more c.args.numbers c.args.codes.now c.loop-i.codes c.put_term-count.new.codes c.args.n c.loop-i.count c.put_term-count.result c.loop-i.i ts c.nth_term.result next (omega arith) c.loop-i.invariant c.put_term-count.ensures
 
 pub returns : goal.returns
 returns c =

@@ -6,11 +6,11 @@ use Rattle.question.proofs.Parted.{long}
 use Rattle.question.proofs.Accepted.{checked}
 use Rattle.answer.proofs.terms.row_part.Goals as goal
 
-pub slice-bounds-result-count : goal.slice-bounds-result-count
-slice-bounds-result-count c = omega (arith, long c.args.question.now c.requires)
+pub slice_bounds-result-count : goal.slice_bounds-result-count
+slice_bounds-result-count c = omega (arith, long c.args.question.now c.requires)
 
-pub slice-bounds-result-start : goal.slice-bounds-result-start
-slice-bounds-result-start c = omega (arith, long c.args.question.now c.requires)
+pub slice_bounds-result-start : goal.slice_bounds-result-start
+slice_bounds-result-start c = omega (arith, long c.args.question.now c.requires)
 
 pub returns : goal.returns
 unfolding question_in

@@ -1,4 +1,4 @@
-use Rattle.std.proofs.Common.{◌≡◌, ◌-◌, length}
+use Rattle.std.proofs.Common.{◌-◌, length}
 use Rattle.join.proofs.Progress.{Progress}
 use Rattle.join.proofs.output.put_out.Given as goal
 

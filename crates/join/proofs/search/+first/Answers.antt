@@ -1,4 +1,4 @@
-use Rattle.std.proofs.Common.{◌≡◌, ℕ, ◌+◌, ◌<◌, ◌≤◌, refl, ◌∙◌, inl, inr, arith, rules}
+use Rattle.std.proofs.Common.{◌≡◌, ℕ, refl, inl, inr, arith, rules}
 use Rattle.std.proofs.lemmas.Bool.{cases_lt}
 use Rattle.join.proofs.Steps.{complete, taken, past, value_small, none_after, no_value, start, here-blank, left_over, bounded, no_bound, passing-more}
 use Rattle.join.proofs.search.+first.Goals as goal
@@ -37,28 +37,13 @@ pub first-requires : goal.first-requires
 first-requires t c = (
   search rules,
   (
-    c.requires.table.0,
+    (c.requires.table.0, (c.requires.table.1.0, (c.requires.table.1.1.0, λ j h g. c.requires.table.1.1.1 j (omega arith) g))),
     (
-      c.requires.table.1.0,
+      (omega arith, (omega arith, omega arith)),
       (
-        c.requires.table.1.1.0,
-        (
-          λ j h g. c.requires.table.1.1.1 j (omega arith) g,
-          (
-            omega arith,
-            (
-              omega arith,
-              (
-                omega arith,
-                (
-                  here-blank c.args.env.now c.args.k c.values.x (omega arith) c.requires.values.0,
-                  passing-more c.args.rows.now c.args.lines.now c.args.shown c.args.k c.args.env.now c.args.last.now c.args.tight c.values.x (omega arith) c.passing-still.result c.passing-still.ensures.yes
-                      (left_over c.args.tight c.args.k c.args.shown c.else-tight.either) c.requires.values.1,
-                ),
-              ),
-            ),
-          ),
-        ),
+        here-blank c.args.env.now c.args.k c.values.x (omega arith) c.requires.values.0,
+        passing-more c.args.rows.now c.args.lines.now c.args.shown c.args.k c.args.env.now c.args.last.now c.args.tight c.values.x (omega arith) c.passing-still.result c.passing-still.ensures.yes
+            (left_over c.args.tight c.args.k c.args.shown c.else-tight.either) c.requires.values.1,
       ),
     ),
   ),

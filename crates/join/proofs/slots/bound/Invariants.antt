@@ -1,4 +1,4 @@
-use Rattle.std.proofs.Common.{ℕ, ◌<◌, ◌≤◌, [], get_or}
+use Rattle.std.proofs.Common.{◌≤◌, get_or}
 use Rattle.join.specs.Slots.{Agree, AllStand}
 use Rattle.join.specs.Order.{Value}
 use Rattle.join.proofs.slots.bound.Given as goal

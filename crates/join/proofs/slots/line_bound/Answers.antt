@@ -1,4 +1,4 @@
-use Rattle.std.proofs.Common.{◌≡◌, arith}
+use Rattle.std.proofs.Common.{arith}
 use Rattle.join.proofs.Bounds.{key_at, not-past, next_le, next-same}
 use Rattle.join.proofs.slots.line_bound.Goals as goal
 

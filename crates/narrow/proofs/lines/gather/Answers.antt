@@ -1,4 +1,4 @@
-use Rattle.std.proofs.Common.{refl, arith, rules}
+use Rattle.std.proofs.Common.{refl, arith}
 use Rattle.narrow.proofs.Gathering.{gather_none, gather-more, gathered}
 use Rattle.narrow.proofs.lines.gather.Goals as goal
 use Rattle.narrow.proofs.lines.gather.Goals.{then-kept+else-w-ge5, else-kept}

@@ -18,7 +18,7 @@ pub loop-p-preserved : goal.loop-p-preserved
 loop-p-preserved c =
     matched-more c.args.first.now c.args.second.now c.args.new.now c.args.k c.args.env.now (cells c.args.row.now) c.args.keys.now
     (λ q. (c.lower-start.result ≤ q) × (q < c.loop-p.p)) (λ q. q ≡ c.loop-p.p) (λ q. (c.lower-start.result ≤ q) × (q < c.loop-p.p + 1))
-    (vec_items c.args.out.now) (vec_items c.loop-p.out) (vec_items c.push-pair.new.out) c.loop-p.invariant (c.in-ok-push-pair.ensures refl)
+    (vec_items c.args.out.now) (vec_items c.loop-p.out) (vec_items c.push_pair.new.out) c.loop-p.invariant (c.in_ok-push_pair.ensures refl)
     (λ q h a. elim (cases_lt q c.loop-p.p) [ inl l ↦ inl (a.0, l) | inr l ↦ inr (omega (arith, a.1)) ])
 
 pub returns : goal.returns

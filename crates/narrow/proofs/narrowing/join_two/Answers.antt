@@ -1,4 +1,4 @@
-use Rattle.std.proofs.Common.{◌≡◌, ◌<◌, [], length, get_or, IfSome, vec_items, sym, refl, ◌∙◌, subst, arith}
+use Rattle.std.proofs.Common.{◌≡◌, ◌<◌, [], length, get_or, IfSome, vec_items, refl, ◌∙◌, subst, arith}
 use Rattle.std.proofs.lemmas.List.{get_or_default}
 use Rattle.join.specs.Order.{Sorted}
 use Rattle.join.specs.Slots.{SlotsBelow}
@@ -40,7 +40,7 @@ returns c =
     let g : Gathered lines a b c.args.shown k new = subst (λ xs. Gathered xs a b c.args.shown k new) c.deref-2.ensures.value c.in-Some.ensures in
     let p : Apart lines a b k env = subst (λ xs. Apart xs a b k env) c.deref.ensures.value (c.if-not-apart.ensures refl) in
     let both : Sorted (vec_items c.in-Some-merged.more) × Merged rows c.index.result.now c.index-2.result.now new k env (vec_items c.in-Some-merged.more) =
-    subst (λ o. IfSome o (λ v. Sorted (vec_items v) × Merged rows c.index.result.now c.index-2.result.now new k env (vec_items v))) c.in-Some-merged.is c.in-ok-merged.ensures in
+    subst (λ o. IfSome o (λ v. Sorted (vec_items v) × Merged rows c.index.result.now c.index-2.result.now new k env (vec_items v))) c.in-Some-merged.is c.in_ok-merged.ensures in
     let m : Merged rows (get_or lines a []) (get_or lines b []) new k env (vec_items c.in-Some-merged.more) =
     subst (λ x. Merged rows (get_or lines a []) x new k env (vec_items c.in-Some-merged.more)) second (subst (λ x. Merged rows x c.index-2.result.now new k env (vec_items c.in-Some-merged.more)) first both.1) in (
       both.0,

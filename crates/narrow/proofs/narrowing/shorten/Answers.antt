@@ -8,7 +8,7 @@ pub returns : goal.returns
 returns c =
     let lines = vec_items c.args.lines.now in
     let rows = c.args.rows.now in
-    let more = vec_items c.in-ok-more.more in
+    let more = vec_items c.in_ok-more.more in
     let env = c.args.env.now in
     let k = c.args.k in
     let a = c.args.a in
@@ -17,7 +17,7 @@ returns c =
     let line : c.index.result.now ≡ get_or lines a [] = c.index.ensures ∙ get_or_default lines a c.index.result.now [] inside in
     let g : Gathered lines a a c.args.shown k new = subst (λ xs. Gathered xs a a c.args.shown k new) c.deref-2.ensures.value c.in-Some.ensures in
     let p : Apart lines a a k env = subst (λ xs. Apart xs a a k env) c.deref.ensures.value (c.if-not-apart.ensures refl) in
-    let m : Merged rows (get_or lines a []) (get_or lines a []) new k env more = subst (λ x. Merged rows x x new k env more) line c.in-ok-more.ensures.1 in (
-      c.in-ok-more.ensures.0,
+    let m : Merged rows (get_or lines a []) (get_or lines a []) new k env more = subst (λ x. Merged rows x x new k env more) line c.in_ok-more.ensures.1 in (
+      c.in_ok-more.ensures.0,
       narrowed-by rows lines c.args.n c.args.shown k env a a new more (set lines a new) inside inside c.requires.counts.1.1.1 c.requires.counts.1.0 g p m (left_of_one lines a new inside),
     )

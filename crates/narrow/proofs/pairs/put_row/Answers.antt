@@ -1,4 +1,4 @@
-use Rattle.std.proofs.Common.{sym, subst, arith, rules}
+use Rattle.std.proofs.Common.{arith, rules}
 use Rattle.join.specs.Order.{cells}
 use Rattle.narrow.proofs.Pairing.{putting-none, putting-more}
 use Rattle.narrow.proofs.pairs.put_row.Goals as goal

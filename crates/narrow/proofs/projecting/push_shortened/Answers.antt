@@ -4,13 +4,13 @@ use Rattle.narrow.specs.Joining.{Shortened}
 use Rattle.narrow.proofs.Shortening.{shortened-none, shortened-one}
 use Rattle.narrow.proofs.projecting.push_shortened.Goals as goal
 
-pub row-under-requires : goal.row-under-requires
-row-under-requires c = c.requires.1.0
+pub row_under-requires : goal.row_under-requires
+row_under-requires c = c.requires.1.0
 
-pub returns-in-ok-push : goal.returns-in-ok-push
-returns-in-ok-push c _ =
-    subst (Shortened c.args.line.now c.args.new.now c.args.k c.args.env.now (cells c.args.row.now) (vec_items c.args.out.now)) (sym c.in-ok-push.ensures.items)
-    (shortened-one c.args.line.now c.args.new.now c.args.k c.args.env.now (cells c.args.row.now) (vec_items c.args.out.now) c.in-Some.vals c.row-under.result c.in-Some.ensures c.requires.1.1 c.row-under.ensures)
+pub returns-in_ok-push : goal.returns-in_ok-push
+returns-in_ok-push c _ =
+    subst (Shortened c.args.line.now c.args.new.now c.args.k c.args.env.now (cells c.args.row.now) (vec_items c.args.out.now)) (sym c.in_ok-push.ensures.items)
+    (shortened-one c.args.line.now c.args.new.now c.args.k c.args.env.now (cells c.args.row.now) (vec_items c.args.out.now) c.in-Some.vals c.row_under.result c.in-Some.ensures c.requires.1.1 c.row_under.ensures)
 
-pub returns-in-default : goal.returns-in-default
-returns-in-default c _ = shortened-none c.args.line.now c.args.new.now c.args.k c.args.env.now (cells c.args.row.now) (vec_items c.args.out.now) c.in-default.ensures
+pub returns-in_default : goal.returns-in_default
+returns-in_default c _ = shortened-none c.args.line.now c.args.new.now c.args.k c.args.env.now (cells c.args.row.now) (vec_items c.args.out.now) c.in_default.ensures

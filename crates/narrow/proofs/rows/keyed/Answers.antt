@@ -4,17 +4,17 @@ use Rattle.narrow.specs.Rows.{Keyed, SameRows}
 use Rattle.std.proofs.lemmas.Result.{IfOk-weaker}
 use Rattle.narrow.proofs.Repeating.{Keying, keying-none, keying-more, keyed-by}
 use Rattle.narrow.proofs.rows.keyed.Goals as goal
-use Rattle.narrow.proofs.rows.keyed.Goals.{then-row-number+in-ok-push, else-row-number}
+use Rattle.narrow.proofs.rows.keyed.Goals.{then-row-number+in_ok-push, else-row-number}
 
 pub loop-row-preserved : goal.loop-row-preserved
 loop-row-preserved c = elim c.if-row-number.branch [
-  | then-row-number+in-ok-push w ↦
-      subst (Keying c.args.rows.now c.args.number c.args.column (c.loop-row.row-index + 1)) (sym (ap vec_items w.keys-is ∙ w.in-ok-push.ensures.items))
-      (keying-more c.args.rows.now c.args.number c.args.column c.loop-row.row-index (vec_items c.loop-row.keys) w.key-row.result (omega arith) w.if-row-number.true w.key-row.ensures c.loop-row.invariant)
+  | then-row-number+in_ok-push w ↦
+      subst (Keying c.args.rows.now c.args.number c.args.column (c.loop-row.row-index + 1)) (sym (ap vec_items w.keys-is ∙ w.in_ok-push.ensures.items))
+      (keying-more c.args.rows.now c.args.number c.args.column c.loop-row.row-index (vec_items c.loop-row.keys) w.key_row.result (omega arith) w.if-row-number.true w.key_row.ensures c.loop-row.invariant)
   | else-row-number w ↦ rw w.keys-is (keying-none c.args.rows.now c.args.number c.args.column c.loop-row.row-index (vec_items c.loop-row.keys) w.if-row-number.false c.loop-row.invariant)
 ]
 
 pub returns : goal.returns
 returns c =
-    IfOk-weaker c.in-order.result (λ v. Sorted (vec_items v) × SameRows (vec_items c.loop-row.keys) (vec_items v)) (λ v. Sorted (vec_items v) × Keyed c.args.rows.now c.args.number c.args.column (vec_items v))
-    (λ v p. (p.0, keyed-by c.args.rows.now c.args.number c.args.column c.loop-row.row-index (vec_items c.loop-row.keys) (vec_items v) (omega arith) c.loop-row.invariant p.1)) c.in-order.ensures
+    IfOk-weaker c.in_order.result (λ v. Sorted (vec_items v) × SameRows (vec_items c.loop-row.keys) (vec_items v)) (λ v. Sorted (vec_items v) × Keyed c.args.rows.now c.args.number c.args.column (vec_items v))
+    (λ v p. (p.0, keyed-by c.args.rows.now c.args.number c.args.column c.loop-row.row-index (vec_items c.loop-row.keys) (vec_items v) (omega arith) c.loop-row.invariant p.1)) c.in_order.ensures

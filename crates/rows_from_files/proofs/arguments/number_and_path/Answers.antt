@@ -4,32 +4,32 @@ use Rattle.wire.specs.Tables.{cell_number}
 use Rattle.rows_from_files.proofs.Naming.{none-some, parted}
 use Rattle.rows_from_files.proofs.arguments.number_and_path.Goals as goal
 
-pub returns-in-err-number : goal.returns-in-err-number
-returns-in-err-number c =
+pub returns-in_err-number : goal.returns-in_err-number
+returns-in_err-number c =
     let arg = c.args.arg.now in
-    let split : IsSplitOnceResult 61 arg None = c.in-err-number.ensures.cases in
-    rw c.from-residual.ensures (λ n path named. parted arg None split n path named)
+    let split : IsSplitOnceResult 61 arg None = c.in_err-number.ensures.cases in
+    rw c.from_residual.ensures (λ n path named. parted arg None split n path named)
 
-pub returns-in-err-read-number : goal.returns-in-err-read-number
-returns-in-err-read-number c =
+pub returns-in_err-read_number : goal.returns-in_err-read_number
+returns-in_err-read_number c =
     let arg = c.args.arg.now in
-    let number = c.in-ok-number.number in
-    let path = c.in-ok-number.path in
-    let split : IsSplitOnceResult 61 arg (Some (number, path)) = c.in-ok-number.ensures.cases in
-    let same : c.as-bytes.result.now ≡ number.now = c.as-bytes.ensures.value in
-    let none : None ≡ cell_number c.as-bytes.result.now = c.in-err-read-number.ensures in
-    rw c.from-residual-in-err-read-number.ensures (λ n rest named. none-some (subst (λ (digits : List ℕ). None ≡ cell_number digits) same none ∙ parted arg (Some (number, path)) split n rest named))
+    let number = c.in_ok-number.number in
+    let path = c.in_ok-number.path in
+    let split : IsSplitOnceResult 61 arg (Some (number, path)) = c.in_ok-number.ensures.cases in
+    let same : c.as_bytes.result.now ≡ number.now = c.as_bytes.ensures.value in
+    let none : None ≡ cell_number c.as_bytes.result.now = c.in_err-read_number.ensures in
+    rw c.from_residual-in_err-read_number.ensures (λ n rest named. none-some (subst (λ (digits : List ℕ). None ≡ cell_number digits) same none ∙ parted arg (Some (number, path)) split n rest named))
 
 pub returns : goal.returns
 returns c =
     let arg = c.args.arg.now in
-    let number = c.in-ok-number.number in
-    let path = c.in-ok-number.path in
-    let split : IsSplitOnceResult 61 arg (Some (number, path)) = c.in-ok-number.ensures.cases in
-    let same : c.as-bytes.result.now ≡ number.now = c.as-bytes.ensures.value in
-    let read : Some c.in-ok-read-number.field-0 ≡ cell_number c.as-bytes.result.now = c.in-ok-read-number.ensures in
+    let number = c.in_ok-number.number in
+    let path = c.in_ok-number.path in
+    let split : IsSplitOnceResult 61 arg (Some (number, path)) = c.in_ok-number.ensures.cases in
+    let same : c.as_bytes.result.now ≡ number.now = c.as_bytes.ensures.value in
+    let read : Some c.in_ok-read_number.field-0 ≡ cell_number c.as_bytes.result.now = c.in_ok-read_number.ensures in
     record {
       digits = number.now;
       is = (split_parts 61 arg (Some (number, path)) split (omega arith)).0;
-      number = sym (subst (λ (digits : List ℕ). Some c.in-ok-read-number.field-0 ≡ cell_number digits) same read);
+      number = sym (subst (λ (digits : List ℕ). Some c.in_ok-read_number.field-0 ≡ cell_number digits) same read);
     }

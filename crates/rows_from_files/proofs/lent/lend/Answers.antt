@@ -9,12 +9,12 @@ use Rattle.rows_from_files.proofs.lent.lend.Goals as goal
 
 pub loop-numbered-init : goal.loop-numbered-init
 unfolding tables_numbers
-loop-numbered-init c = pushed _ c.new-numbers.ensures.items c.in-ok-push.was c.push.ensures.items
+loop-numbered-init c = pushed _ c.new-numbers.ensures.items c.in_ok-push.was c.push.ensures.items
 
 pub loop-numbered-preserved : goal.loop-numbered-preserved
 loop-numbered-preserved c =
     lent_more c.args.tables.now c.loop-numbered.numbered-index (length c.args.tables.now) c.numbered-item.result _ _ (omega arith)
-    c.numbered-item.is c.loop-numbered.invariant c.in-ok-push-table.ensures
+    c.numbered-item.is c.loop-numbered.invariant c.in_ok-push_table.ensures
 
 pub returns : goal.returns
 returns c =

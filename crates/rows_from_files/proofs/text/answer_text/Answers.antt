@@ -8,7 +8,7 @@ pub returns : goal.returns
 returns c =
     let question = c.args.question.now in
     let tables = c.args.tables.now in
-    let answer = c.in-ok-answered.answered.answer in
-    let out = vec_items c.in-ok-answered.answered.out in
-    IfOk-weaker c.answered-text.result (λ text. string_bytes text ≡ answer_text (get_or question 0 0) out answer) (λ text. Printed question tables (string_bytes text))
-    (λ text. told question tables out answer (string_bytes text) c.in-ok-answered.ensures) c.answered-text.ensures
+    let answer = c.in_ok-answered.answered.answer in
+    let out = vec_items c.in_ok-answered.answered.out in
+    IfOk-weaker c.answered_text.result (λ text. string_bytes text ≡ answer_text (get_or question 0 0) out answer) (λ text. Printed question tables (string_bytes text))
+    (λ text. told question tables out answer (string_bytes text) c.in_ok-answered.ensures) c.answered_text.ensures

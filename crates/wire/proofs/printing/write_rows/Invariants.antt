@@ -6,4 +6,4 @@ use Rattle.wire.proofs.printing.write_rows.Given as goal
 abbrev pub invariant-loop-i : goal.invariant-loop-i
 invariant-loop-i l =
     (length l.rest ≤ length l.numbers)
-    × (string_bytes l.text ++ table_text (rows_in (l.rows - l.-i) l.columns l.rest) ≡ string_bytes l.initial.text ++ table_text (rows_in l.rows l.columns l.numbers))
+    × (string_bytes l.text ++ table_text (rows_in (l.rows - l._i) l.columns l.rest) ≡ string_bytes l.initial.text ++ table_text (rows_in l.rows l.columns l.numbers))

@@ -4,24 +4,24 @@ use Rattle.std.proofs.lemmas.List.{length-take, length-drop}
 use Rattle.wire.proofs.Rows.{row_empty, pushed_one, line_stop, line_end, line-more}
 use Rattle.wire.proofs.tables.push_row.Goals as goal
 
-pub returns-then-is-empty : goal.returns-then-is-empty
-returns-then-is-empty c = row_empty c.args.line.now (vec_items c.args.cells.now) (grind (arith, nat_tests))
+pub returns-then-is_empty : goal.returns-then-is_empty
+returns-then-is_empty c = row_empty c.args.line.now (vec_items c.args.cells.now) (grind (arith, nat_tests))
 
-pub slice-bounds-read-number-end : goal.slice-bounds-read-number-end
-slice-bounds-read-number-end c = sym (simp length-take (omega arith))
+pub slice_bounds-read_number-end : goal.slice_bounds-read_number-end
+slice_bounds-read_number-end c = sym (simp length-take (omega arith))
 
-pub returns-in-default : goal.returns-in-default
-returns-in-default c = (
-  line_stop c.args.line.now c.loop-n.rest.now (vec_items c.args.cells.now) (vec_items c.loop-n.cells) c.place-of-end.result
-      (grind (arith, nat_tests)) c.place-of-end.ensures.place c.in-default.ensures c.loop-n.invariant,
+pub returns-in_default : goal.returns-in_default
+returns-in_default c = (
+  line_stop c.args.line.now c.loop-n.rest.now (vec_items c.args.cells.now) (vec_items c.loop-n.cells) c.place_of-end.result
+      (grind (arith, nat_tests)) c.place_of-end.ensures.place c.in_default.ensures c.loop-n.invariant,
   refl,
 )
 
 pub returns-then-end-rest : goal.returns-then-end-rest
 returns-then-end-rest c =
     line_end c.args.line.now c.loop-n.rest.now (vec_items c.args.cells.now) (vec_items c.loop-n.cells) (vec_items c.push.new.self)
-    c.place-of-end.result c.in-Some.n (grind (arith, nat_tests)) c.place-of-end.ensures.place (omega arith) c.in-Some.ensures
-    (pushed_one _ _ _ _ c.if-is-err.ensures.negation c.push.ensures.items) c.loop-n.invariant
+    c.place_of-end.result c.in-Some.n (grind (arith, nat_tests)) c.place_of-end.ensures.place (omega arith) c.in-Some.ensures
+    (pushed_one _ _ _ _ c.if-is_err.ensures.negation c.push.ensures.items) c.loop-n.invariant
 
 pub loop-n-smaller : goal.loop-n-smaller
 loop-n-smaller c = rw c.behind-rest.ensures (simp length-drop (omega arith))
@@ -29,5 +29,5 @@ loop-n-smaller c = rw c.behind-rest.ensures (simp length-drop (omega arith))
 pub loop-n-preserved : goal.loop-n-preserved
 loop-n-preserved c =
     line-more c.args.line.now c.loop-n.rest.now c.behind-rest.result.now (vec_items c.args.cells.now) (vec_items c.loop-n.cells)
-    (vec_items c.push.new.self) c.place-of-end.result c.in-Some.n c.place-of-end.ensures.place (omega arith) c.in-Some.ensures
-    (pushed_one _ _ _ _ c.if-is-err.ensures.negation c.push.ensures.items) c.behind-rest.ensures c.loop-n.invariant
+    (vec_items c.push.new.self) c.place_of-end.result c.in-Some.n c.place_of-end.ensures.place (omega arith) c.in-Some.ensures
+    (pushed_one _ _ _ _ c.if-is_err.ensures.negation c.push.ensures.items) c.behind-rest.ensures c.loop-n.invariant

@@ -59,7 +59,7 @@ fn second_way(heap: Global, question: &Plain, rows: &[Line]) -> Result<Rows, All
     for image in images(heap, question, rows)?.iter() {
         found.push([image[2], image[4], image[6], image[8]])?;
     }
-    found.sort();
+    found.sort_unstable();
     Ok(Rows {
         rows: found,
         width: question.row[0] as usize,

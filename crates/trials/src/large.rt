@@ -246,7 +246,7 @@ fn second_way(heap: Global, question: &Plain, rows: &[Line]) -> Result<Rows, All
     for value in values.iter() {
         found.push(row_under(value, &question.row))?;
     }
-    found.sort();
+    found.sort_unstable();
     found.dedup();
     Ok(Rows {
         rows: found,

@@ -38,7 +38,7 @@ pub fn held(heap: Global, reports: &[Plain], lines: &[Line]) -> Result<Vec<Line>
             uses.push(as_line(i, row))?;
         }
     }
-    uses.sort();
+    uses.sort_unstable();
     Ok(uses)
 }
 

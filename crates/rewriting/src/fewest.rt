@@ -1,5 +1,5 @@
 // The fewest uses of reports that answer a question, found and written down.
-ghost use Rattle.std.specs.Prelude.{◌≡◌, ◌≤◌, length, MatchResult, None};
+ghost use Rattle.std.specs.Prelude.{◌≡◌, ◌≤◌, false, length, is_ok, None, MatchResult};
 ghost use Rattle.question.specs.Layout.{question_in};
 ghost use Rattle.question.specs.Reports.{reports_in};
 ghost use Rattle.question.specs.Check.{question_refusal};
@@ -55,10 +55,11 @@ fn write_fewest(question: &[u64], reports: &[u64], uses: &Uses, out: &mut [u64])
 
 // The refusal of a check that failed.
 fn refused_by<T: Copy>(check: Result<T, Refusal>) -> Reply
-    ensures { MatchResult check (λ _. result ≡ Reply.Impossible) (λ e. result ≡ Reply.Refused e) }
+    requires { is_ok check ≡ false }
+    ensures { MatchResult check (λ _. ⊥) (λ e. result ≡ Reply.Refused e) }
 {
     match check {
-        Ok(_) => Reply::Impossible,
+        Ok(_) => unreachable(),
         Err(refusal) => Reply::Refused(refusal),
     }
 }

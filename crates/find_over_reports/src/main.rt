@@ -2,6 +2,8 @@
 #![tactic(auto)]
 
 mod shown;
+#[cfg(test)]
+mod tests;
 
 use rewriting::{Reply, find};
 use shown::show_found;

@@ -73,14 +73,14 @@ unfolding line_fits
 line_fits-cells limit xs e = grind (arith, nat_tests)
 
 -- with more variables, what fits still does
-term-fits_wider : (a b kind n : ℕ) → a ≤ b → term_fits a kind n ≡ true → term_fits b kind n ≡ true
-term-fits_wider a b kind n h e = grind (arith, nat_tests)
+pub term_fits_wider : (a b kind n : ℕ) → a ≤ b → term_fits a kind n ≡ true → term_fits b kind n ≡ true
+term_fits_wider a b kind n h e = grind (arith, nat_tests)
 
 pub terms_fit_wider : (a b n : ℕ) (xs : List ℕ) → a ≤ b → terms_fit a n xs ≡ true → terms_fit b n xs ≡ true
 unfolding terms_fit
 terms_fit_wider a b zero xs h e = refl
 terms_fit_wider a b (suc n) xs h e =
-    and_from _ _ (term-fits_wider a b (get_or xs 0 0) (get_or xs 1 0) h (and_parts _ _ e).0) (terms_fit_wider a b n (drop 2 xs) h (and_parts _ _ e).1)
+    and_from _ _ (term_fits_wider a b (get_or xs 0 0) (get_or xs 1 0) h (and_parts _ _ e).0) (terms_fit_wider a b n (drop 2 xs) h (and_parts _ _ e).1)
 
 pub line_fits_wider : (a b : ℕ) (xs : List ℕ) → a ≤ b → line_fits a xs ≡ true → line_fits b xs ≡ true
 unfolding line_fits

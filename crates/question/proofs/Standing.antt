@@ -1,7 +1,8 @@
 -- Whether a variable stands in terms and lines, turn by turn.
-use Rattle.std.proofs.Common.{◌≡◌, ℕ, ◌+◌, ◌≤◌, Bool, true, false, cond, eqb, List, [], ◌∷◌, ◌++◌, length, drop, refl, ap, ◌∙◌, arith, eq-eqb}
+use Rattle.std.proofs.Common.{◌≡◌, ℕ, ◌+◌, ◌≤◌, Bool, true, false, cond, ◌||◌, eqb, List, [], ◌∷◌, ◌++◌, length, drop, refl, ap, ◌∙◌, arith, eq-eqb}
 use Rattle.std.proofs.lemmas.Bool.Decides.{nat_tests}
 use Rattle.std.proofs.lemmas.List.{drop_all}
+use Rattle.std.specs.List.{list_any}
 use Rattle.question.specs.declared.terms.Term.{Term}
 use Rattle.question.specs.declared.terms.Term.TheVariants.{Number, Variable}
 use Rattle.question.specs.Question.{Line}
@@ -65,3 +66,23 @@ all_in_stop i ts ms x e f = ap (λ (us : List Term). all_in (vars us) ms) e ∙ 
 pub all_in_end : (i : ℕ) (ts : List Term) (ms : List ℕ) → length ts ≤ i → all_in (vars (drop i ts)) ms ≡ true
 unfolding vars all_in
 all_in_end i ts ms h = ap (λ (us : List Term). all_in (vars us) ms) (drop_all i ts h)
+
+-- a variable stands in terms if one of them, alone, has it
+pub has-any : (x : ℕ) (ts : List Term) → list_any (λ t. has (vars (t ∷ [])) x) ts ≡ has (vars ts) x
+unfolding vars has
+has-any x [] = refl
+has-any x (Number n ∷ ts) = has-any x ts
+has-any x (Variable y ∷ ts) = elim (eqb y x) as (λ b. (cond b true false || list_any (λ t. has (vars (t ∷ [])) x) ts) ≡ cond b true (has (vars ts) x)) [ true ↦ refl | false ↦ has-any x ts ]
+
+-- lines that are still to come: the first has the variable, it has not, and there is none
+pub has-line-first : (x : ℕ) (ls : List Line) (l : Line) (ms : List Line) → ls ≡ l ∷ ms → has (vars l.cells) x ≡ true → has (line_vars ls) x ≡ true
+unfolding line_vars
+has-line-first x ls l ms e f = ap (λ (ns : List Line). has (line_vars ns) x) e ∙ has-append (vars l.cells) (line_vars ms) x ∙ rw f
+
+pub has-line-rest : (x : ℕ) (ls : List Line) (l : Line) (ms : List Line) → ls ≡ l ∷ ms → has (vars l.cells) x ≡ false → has (line_vars ls) x ≡ has (line_vars ms) x
+unfolding line_vars
+has-line-rest x ls l ms e f = ap (λ (ns : List Line). has (line_vars ns) x) e ∙ has-append (vars l.cells) (line_vars ms) x ∙ rw f
+
+pub has-none : (x : ℕ) (ls : List Line) → ls ≡ [] → has (line_vars ls) x ≡ false
+unfolding line_vars has
+has-none x ls e = ap (λ (ns : List Line). has (line_vars ns) x) e

@@ -22,12 +22,23 @@ unfoldable pub terms_fit : (limit n : ℕ) → List ℕ → Bool
 terms_fit limit zero xs = true
 terms_fit limit (suc n) xs = term_fits limit (slice_index xs 0) (slice_index xs 1) && terms_fit limit n (drop 2 xs)
 
+-- the same of two numbers that lie in a list of their own
+abbrev pub pair_term : List ℕ → Term
+pair_term p = term_in (slice_index p 0) (slice_index p 1)
+
+abbrev pub pair_fits : ℕ → List ℕ → Bool
+pair_fits limit p = term_fits limit (slice_index p 0) (slice_index p 1)
+
 -- a line is its table, the count of its cells, and room for four terms
 abbrev pub line_in : List ℕ → Line
 line_in xs = record { table = slice_index xs 0; cells = terms_in (slice_index xs 1) (drop 2 xs) }
 
 unfoldable pub line_fits : (limit : ℕ) → List ℕ → Bool
 line_fits limit xs = nat_lt (slice_index xs 0) 4294967296 && (nat_le (slice_index xs 1) 4 && terms_fit limit (slice_index xs 1) (drop 2 xs))
+
+-- the same of ten numbers that lie in a list of their own
+abbrev pub ten_fit : (limit : ℕ) → List ℕ → Bool
+ten_fit limit xs = (length xs == 10) && line_fits limit xs
 
 -- the first n lines that lie in the numbers, ten numbers to a line
 unfoldable pub lines_in : ℕ → List ℕ → List Line

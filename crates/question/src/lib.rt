@@ -4,6 +4,8 @@
 mod check;
 mod fits;
 mod laws;
+mod lent;
+mod lines;
 mod parts;
 mod refusals;
 mod rows;
@@ -22,5 +24,7 @@ pub use parts::{
 pub use refusals::Refusal;
 pub use rows::{line_row, question_row};
 pub use soundness::has_variable;
-pub use terms::Term;
+pub use lent::Question;
+pub use lines::{Line, Lines};
+pub use terms::{NoTerm, Term, Terms};
 pub use write::write_question;

@@ -1,0 +1,58 @@
+-- Terms and lines in lent numbers, cut into a list for each: what the layout says of the numbers holds of these lists.
+use Rattle.std.proofs.Common.{◌≡◌, ℕ, zero, suc, ◌*◌, ◌/◌, ◌<◌, ◌≤◌, true, ◌&&◌, List, map, length, get_or, take, drop, refl, eq-eqb, ◌∙◌, ◌-◌, arith}
+use Rattle.std.specs.List.{list_all}
+use Rattle.std.specs.Simd.{first_chunks}
+use Rattle.std.proofs.lemmas.Bool.{and_parts, and_from}
+use Rattle.std.proofs.lemmas.List.{get_or-take, take-take, length-take-le, length-drop}
+use Rattle.std.proofs.lemmas.Slice.{between_is}
+use Rattle.std.proofs.Math.Nat.{mul-div_cancel_left}
+use Rattle.question.specs.Layout.{pair_term, pair_fits, terms_in, terms_fit, line_in, line_fits, ten_fit, lines_in, lines_fit}
+use Rattle.question.proofs.Fitting.{line_fits-take, line_fits-cells}
+use Rattle.question.proofs.Decoding.{line_in-take}
+
+terms_in-cut : (n : ℕ) (xs : List ℕ) → map pair_term (first_chunks 2 n xs) ≡ terms_in n xs
+unfolding terms_in
+terms_in-cut zero xs = refl
+terms_in-cut (suc n) xs = rw (get_or-take 2 xs 0 0 (omega arith), get_or-take 2 xs 1 0 (omega arith), terms_in-cut n (drop 2 xs))
+
+terms_fit-cut : (limit n : ℕ) (xs : List ℕ) → list_all (pair_fits limit) (first_chunks 2 n xs) ≡ terms_fit limit n xs
+unfolding terms_fit
+terms_fit-cut limit zero xs = refl
+terms_fit-cut limit (suc n) xs = rw (get_or-take 2 xs 0 0 (omega arith), get_or-take 2 xs 1 0 (omega arith), terms_fit-cut limit n (drop 2 xs))
+
+lines_fit-cut : (limit n : ℕ) (xs : List ℕ) → 10 * n ≤ length xs → lines_fit limit n xs ≡ true → list_all (ten_fit limit) (first_chunks 10 n xs) ≡ true
+unfolding lines_fit
+lines_fit-cut limit zero xs h e = refl
+lines_fit-cut limit (suc n) xs h e =
+    let p = and_parts _ _ e in
+    let l : length (take 10 xs) ≡ 10 = length-take-le 10 xs (omega arith) in
+    and_from _ _ (and_from _ _ (eq-eqb _ _ l) (line_fits-take limit 10 xs (omega arith) ∙ p.0)) (lines_fit-cut limit n (drop 10 xs) (omega (arith, length-drop 10 xs)) p.1)
+
+lines_in-cut : (limit n : ℕ) (xs : List ℕ) → lines_fit limit n xs ≡ true → map line_in (first_chunks 10 n xs) ≡ lines_in n xs
+unfolding lines_in lines_fit
+lines_in-cut limit zero xs e = refl
+lines_in-cut limit (suc n) xs e =
+    let p = and_parts _ _ e in
+    rw (line_in-take 10 xs (omega arith) (line_fits-cells limit xs p.0).1, lines_in-cut limit n (drop 10 xs) p.1)
+
+-- only the first n chunks count
+chunks-take : (k n m : ℕ) (xs : List ℕ) → k * n ≤ m → first_chunks k n (take m xs) ≡ first_chunks k n xs
+chunks-take k zero m xs h = refl
+chunks-take k (suc n) m xs h =
+    let a : k ≤ m = omega arith in
+    let b : k * n ≤ m - k = omega arith in
+    rw (take-take k m xs a, ← between_is xs k m, chunks-take k n (m - k) (drop k xs) b)
+
+-- the first n chunks are all that the first k * n numbers have
+all-chunks : (k n : ℕ) (xs : List ℕ) → 0 < k → k * n ≤ length xs → first_chunks k (length (take (k * n) xs) / k) (take (k * n) xs) ≡ first_chunks k n xs
+all-chunks k n xs h l =
+    let e : length (take (k * n) xs) ≡ k * n = length-take-le _ _ l in
+    rw (e, mul-div_cancel_left n h, chunks-take k n (k * n) xs (omega arith))
+
+pub terms-cut : (limit n : ℕ) (xs : List ℕ) (ps : List (List ℕ)) → 2 * n ≤ length xs → terms_fit limit n xs ≡ true
+    → ps ≡ first_chunks 2 (length (take (2 * n) xs) / 2) (take (2 * n) xs) → (list_all (pair_fits limit) ps ≡ true) × (map pair_term ps ≡ terms_in n xs)
+terms-cut limit n xs ps h f e = rw (e, all-chunks 2 n xs (omega arith) h) (terms_fit-cut limit n xs ∙ f, terms_in-cut n xs)
+
+pub lines-cut : (limit n : ℕ) (xs : List ℕ) (ps : List (List ℕ)) → 10 * n ≤ length xs → lines_fit limit n xs ≡ true
+    → ps ≡ first_chunks 10 (length (take (10 * n) xs) / 10) (take (10 * n) xs) → (list_all (ten_fit limit) ps ≡ true) × (map line_in ps ≡ lines_in n xs)
+lines-cut limit n xs ps h f e = rw (e, all-chunks 10 n xs (omega arith) h) (lines_fit-cut limit n xs h f, lines_in-cut limit n xs f)

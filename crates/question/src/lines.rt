@@ -1,0 +1,140 @@
+// A line of a question, and lines one after another.
+ghost use Rattle.std.specs.Prelude.{◌≡◌, ◌*◌, ◌≤◌, true, ◌∷◌, ◌++◌, length, drop};
+ghost use Rattle.std.specs.List.{list_all};
+ghost use Rattle.std.specs.Iterator.{YieldsFirstBy, item_count};
+ghost use Rattle.question.specs.Question.{all_at};
+ghost use Rattle.question.specs.Sound.{has, vars, line_vars};
+ghost use Rattle.question.specs.Layout.{line_in, line_fits, ten_fit, lines_in, lines_fit, line_out, lines_out, padded, value_in};
+
+use super::terms::{Term, Terms};
+
+// A line (the field says: atom), in its ten lent numbers: its table, how many terms it has, and room for four. Its variables are below LIMIT.
+#[derive(Clone, Copy)]
+pub struct Line<'a, const LIMIT: usize> {
+    numbers: &'a [u64; 10],
+    ghost ten: { length numbers.now ≡ 10 },
+    ghost fits: { line_fits LIMIT numbers.now ≡ true },
+    ghost limit: { LIMIT ≤ 256 },
+}
+
+impl<'a, const LIMIT: usize> Line<'a, LIMIT> {
+    ghost use Rattle.question.specs.Lent.{terms_of, line_of};
+
+    // The table that it names.
+    pub fn table(&self) -> u64
+        ensures { result ≡ (line_of self.now).table }
+    {
+        self.numbers[0]
+    }
+
+    // How many terms it has.
+    pub fn width(&self) -> usize
+        ensures { result ≡ length (line_of self.now).cells }
+    {
+        self.numbers[1] as usize
+    }
+
+    // Its terms.
+    pub fn terms(&self) -> Terms<'a, LIMIT>
+        ensures { terms_of result ≡ (line_of self.now).cells }
+    {
+        let numbers = self.numbers;
+        Terms::first_of(&numbers[2..], self.width())
+    }
+
+    // Its ten numbers. Room that it does not use may hold anything.
+    pub fn numbers(&self) -> &'a [u64; 10]
+        ensures line { line_in result.now ≡ line_of self.now }
+        ensures fits { line_fits LIMIT result.now ≡ true }
+    {
+        self.numbers
+    }
+
+    // Writes the row that it is under the values to the front of out.
+    pub fn row_under(&self, values: &[u64; 16], out: &mut [u64])
+        requires few { LIMIT ≤ 16 }
+        requires room { length (line_of self.now).cells ≤ length out.old }
+        ensures { out.new ≡ all_at (value_in values.now) (line_of self.now).cells ++ drop (length (line_of self.now).cells) out.old }
+    {
+        self.terms().row_under(values, out);
+    }
+
+    // Writes it into ten numbers, with 0 where room is left.
+    pub fn write(&self, out: &mut [u64])
+        requires { length out.old ≡ 10 }
+        ensures { out.new ≡ line_out (line_of self.now) }
+    {
+        out[0] = self.table();
+        self.terms().write(&mut out[1..]);
+    }
+
+    // Whether the variable is one of its terms.
+    pub fn has(&self, x: u8) -> bool
+        ensures { result ≡ has (vars (line_of self.now).cells) x }
+    {
+        self.terms().any(|term| term == Term::Variable(x))
+    }
+}
+
+// Lines that are still to come, ten lent numbers each.
+#[derive(Clone, Copy)]
+pub struct Lines<'a, const LIMIT: usize> {
+    left: &'a [[u64; 10]],
+    ghost fit: { list_all (ten_fit LIMIT) left.now ≡ true },
+    ghost limit: { LIMIT ≤ 256 },
+}
+
+impl<'a, const LIMIT: usize> Lines<'a, LIMIT> {
+    ghost use Rattle.question.specs.Lent.{lines_of};
+
+    // The first n lines that lie in the numbers.
+    pub fn first_of(numbers: &'a [u64], n: usize) -> Lines<'a, LIMIT>
+        requires lent { (10 * n ≤ length numbers.now) × (lines_fit LIMIT n numbers.now ≡ true) }
+        requires limit { LIMIT ≤ 256 }
+        ensures { lines_of result ≡ lines_in n numbers.now }
+    {
+        let (lines, _) = numbers[..10 * n].as_chunks();
+        Lines { left: lines }
+    }
+
+    // Writes their count, and them into the room for four.
+    pub(crate) fn write(&self, out: &mut [u64])
+        requires { (length (lines_of self.now) ≤ 4) × (length out.old ≡ 41) }
+        ensures { out.new ≡ length (lines_of self.now) ∷ padded 40 (lines_out (lines_of self.now)) }
+    {
+        let lines = *self;
+        out.fill(0);
+        out[0] = lines.left.len() as u64;
+        for (i, line) in lines.enumerate() {
+            line.write(&mut out[1 + 10 * i..11 + 10 * i]);
+        }
+    }
+
+    // Whether the variable stands in one of them.
+    pub fn have(&self, x: u8) -> bool
+        ensures { result ≡ has (line_vars (lines_of self.now)) x }
+    {
+        for line in *self {
+            if line.has(x) {
+                return true;
+            }
+        }
+        false
+    }
+}
+
+impl<'a, const LIMIT: usize> Iterator for Lines<'a, LIMIT> {
+    type Item = Line<'a, LIMIT>;
+
+    ghost use Rattle.question.specs.Lent.{line_of, lines_of};
+
+    ghost next_gives = { YieldsFirstBy line_of lines_of };
+
+    ghost remaining = { item_count lines_of };
+
+    fn next(&mut self) -> Option<Line<'a, LIMIT>> {
+        let (numbers, left) = self.left.split_first()?;
+        self.left = left;
+        Some(Line { numbers })
+    }
+}

@@ -1,24 +1,31 @@
 -- Terms and lines in lent numbers, cut into a list for each: what the layout says of the numbers holds of these lists.
-use Rattle.std.proofs.Common.{◌≡◌, ℕ, zero, suc, ◌*◌, ◌/◌, ◌<◌, ◌≤◌, true, ◌&&◌, List, map, length, get_or, take, drop, refl, eq-eqb, ◌∙◌, ◌-◌, arith}
-use Rattle.std.specs.List.{list_all}
+use Rattle.std.proofs.Common.{◌≡◌, ℕ, zero, suc, ◌*◌, ◌/◌, ◌<◌, ◌≤◌, true, ◌&&◌, List, [], ◌∷◌, ◌++◌, map, length, get_or, take, drop, refl, ap, eq-eqb, ◌∙◌, ◌-◌, arith}
+use Rattle.std.specs.List.{list_all, flat_map}
 use Rattle.std.specs.Simd.{first_chunks}
-use Rattle.std.proofs.lemmas.Bool.{and_parts, and_from}
-use Rattle.std.proofs.lemmas.List.{get_or-take, take-take, length-take-le, length-drop}
+use Rattle.std.proofs.lemmas.Bool.{and_parts, and_from, eqb-true}
+use Rattle.std.proofs.lemmas.List.{get_or-take, take-take, length-take-le, length-drop, length-append}
 use Rattle.std.proofs.lemmas.Slice.{between_is}
 use Rattle.std.proofs.Math.Nat.{mul-div_cancel_left}
-use Rattle.question.specs.Layout.{pair_term, pair_fits, terms_in, terms_fit, line_in, line_fits, ten_fit, lines_in, lines_fit}
+use Rattle.question.specs.declared.terms.Term.{Term}
+use Rattle.question.specs.Layout.{pair_term, pair_fits, two_fit, terms_in, terms_fit, terms_out, line_in, line_fits, ten_fit, lines_in, lines_fit, line_out, lines_out}
 use Rattle.question.proofs.Fitting.{line_fits-take, line_fits-cells}
-use Rattle.question.proofs.Decoding.{line_in-take}
+use Rattle.question.proofs.Decoding.{line_in-take, length-terms_in}
+use Rattle.question.proofs.Written.{term_out_in}
+use Rattle.question.proofs.Writing.{length-line_out}
 
 terms_in-cut : (n : ℕ) (xs : List ℕ) → map pair_term (first_chunks 2 n xs) ≡ terms_in n xs
 unfolding terms_in
 terms_in-cut zero xs = refl
 terms_in-cut (suc n) xs = rw (get_or-take 2 xs 0 0 (omega arith), get_or-take 2 xs 1 0 (omega arith), terms_in-cut n (drop 2 xs))
 
-terms_fit-cut : (limit n : ℕ) (xs : List ℕ) → list_all (pair_fits limit) (first_chunks 2 n xs) ≡ terms_fit limit n xs
+terms_fit-cut : (limit n : ℕ) (xs : List ℕ) → 2 * n ≤ length xs → terms_fit limit n xs ≡ true → list_all (two_fit limit) (first_chunks 2 n xs) ≡ true
 unfolding terms_fit
-terms_fit-cut limit zero xs = refl
-terms_fit-cut limit (suc n) xs = rw (get_or-take 2 xs 0 0 (omega arith), get_or-take 2 xs 1 0 (omega arith), terms_fit-cut limit n (drop 2 xs))
+terms_fit-cut limit zero xs h e = refl
+terms_fit-cut limit (suc n) xs h e =
+    let p = and_parts _ _ e in
+    let l : length (take 2 xs) ≡ 2 = length-take-le 2 xs (omega arith) in
+    let f : pair_fits limit (take 2 xs) ≡ true = rw (get_or-take 2 xs 0 0 (omega arith), get_or-take 2 xs 1 0 (omega arith)) p.0 in
+    and_from _ _ (and_from _ _ (eq-eqb _ _ l) f) (terms_fit-cut limit n (drop 2 xs) (omega (arith, length-drop 2 xs)) p.1)
 
 lines_fit-cut : (limit n : ℕ) (xs : List ℕ) → 10 * n ≤ length xs → lines_fit limit n xs ≡ true → list_all (ten_fit limit) (first_chunks 10 n xs) ≡ true
 unfolding lines_fit
@@ -50,9 +57,39 @@ all-chunks k n xs h l =
     rw (e, mul-div_cancel_left n h, chunks-take k n (k * n) xs (omega arith))
 
 pub terms-cut : (limit n : ℕ) (xs : List ℕ) (ps : List (List ℕ)) → 2 * n ≤ length xs → terms_fit limit n xs ≡ true
-    → ps ≡ first_chunks 2 (length (take (2 * n) xs) / 2) (take (2 * n) xs) → (list_all (pair_fits limit) ps ≡ true) × (map pair_term ps ≡ terms_in n xs)
-terms-cut limit n xs ps h f e = rw (e, all-chunks 2 n xs (omega arith) h) (terms_fit-cut limit n xs ∙ f, terms_in-cut n xs)
+    → ps ≡ first_chunks 2 (length (take (2 * n) xs) / 2) (take (2 * n) xs) → (list_all (two_fit limit) ps ≡ true) × (map pair_term ps ≡ terms_in n xs)
+terms-cut limit n xs ps h f e = rw (e, all-chunks 2 n xs (omega arith) h) (terms_fit-cut limit n xs h f, terms_in-cut n xs)
 
 pub lines-cut : (limit n : ℕ) (xs : List ℕ) (ps : List (List ℕ)) → 10 * n ≤ length xs → lines_fit limit n xs ≡ true
     → ps ≡ first_chunks 10 (length (take (10 * n) xs) / 10) (take (10 * n) xs) → (list_all (ten_fit limit) ps ≡ true) × (map line_in ps ≡ lines_in n xs)
 lines-cut limit n xs ps h f e = rw (e, all-chunks 10 n xs (omega arith) h) (lines_fit-cut limit n xs h f, lines_in-cut limit n xs f)
+
+-- terms that fit are written down as they lie
+pub pairs-flat : (limit : ℕ) (ps : List (List ℕ)) → list_all (two_fit limit) ps ≡ true → flat_map (λ p. p) ps ≡ terms_out (map pair_term ps)
+unfolding terms_out
+pairs-flat limit [] f = refl
+pairs-flat limit (p ∷ ps) f =
+    let a = and_parts _ _ f in
+    let b = and_parts _ _ a.0 in
+    pair-flat limit p (map pair_term ps) (flat_map (λ q. q) ps) (eqb-true _ _ b.0) b.1 (pairs-flat limit ps a.1)
+  where
+    pair-flat : (limit : ℕ) (p : List ℕ) (ts : List Term) (ys : List ℕ) → length p ≡ 2 → pair_fits limit p ≡ true → ys ≡ terms_out ts → p ++ ys ≡ terms_out (pair_term p ∷ ts)
+    pair-flat limit [] ts ys l g e = absurd (omega arith)
+    pair-flat limit (a ∷ []) ts ys l g e = absurd (omega arith)
+    pair-flat limit (a ∷ b ∷ []) ts ys l g e = rw (term_out_in limit a b ts g) (ap (λ (zs : List ℕ). a ∷ b ∷ zs) e)
+    pair-flat limit (a ∷ b ∷ c ∷ p) ts ys l g e = absurd (omega arith)
+
+-- a line that fits is no wider than four
+pub line_few : (limit : ℕ) (xs : List ℕ) → line_fits limit xs ≡ true → length (line_in xs).cells ≤ 4
+line_few limit xs e = rw (length-terms_in (get_or xs 1 0) (drop 2 xs)) (line_fits-cells limit xs e).1
+
+
+-- lines that fit are ten numbers each, as they are written
+pub lines-long : (limit : ℕ) (ps : List (List ℕ)) → list_all (ten_fit limit) ps ≡ true → length (lines_out (map line_in ps)) ≡ 10 * length (map line_in ps)
+unfolding lines_out
+lines-long limit [] f = refl
+lines-long limit (p ∷ ps) f =
+    let a = and_parts _ _ f in
+    let e = lines-long limit ps a.1 in
+    let few = line_few limit p (and_parts _ _ a.0).1 in
+    length-append (line_out (line_in p)) (lines_out (map line_in ps)) ∙ omega (arith, length-line_out (line_in p) few, e)

@@ -29,6 +29,9 @@ pair_term p = term_in (slice_index p 0) (slice_index p 1)
 abbrev pub pair_fits : ℕ → List ℕ → Bool
 pair_fits limit p = term_fits limit (slice_index p 0) (slice_index p 1)
 
+abbrev pub two_fit : (limit : ℕ) → List ℕ → Bool
+two_fit limit p = (length p == 2) && pair_fits limit p
+
 -- a line is its table, the count of its cells, and room for four terms
 abbrev pub line_in : List ℕ → Line
 line_in xs = record { table = slice_index xs 0; cells = terms_in (slice_index xs 1) (drop 2 xs) }

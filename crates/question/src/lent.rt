@@ -68,7 +68,10 @@ impl<'a> Question<'a> {
         requires { (length (lines_of lines.now) ≤ 4) × (50 ≤ length out.old) }
         ensures { out.new ≡ question_out (record { row = (question_of self.now).row; lines = lines_of lines.now }) ++ drop 50 out.old }
     {
-        self.row().write(&mut out[0..9]);
-        lines.write(&mut out[9..50]);
+        let row = self.row();
+        out[0] = row.count_left() as u64;
+        row.write(&mut out[1..9]);
+        out[9] = lines.count_left() as u64;
+        lines.write(&mut out[10..50]);
     }
 }

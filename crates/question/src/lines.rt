@@ -65,7 +65,8 @@ impl<'a, const LIMIT: usize> Line<'a, LIMIT> {
         ensures { out.new ≡ line_out (line_of self.now) }
     {
         out[0] = self.table();
-        self.terms().write(&mut out[1..]);
+        out[1] = self.width() as u64;
+        self.terms().write(&mut out[2..10]);
     }
 
     // Whether the variable is one of its terms.
@@ -97,17 +98,31 @@ impl<'a, const LIMIT: usize> Lines<'a, LIMIT> {
         Lines { left: lines }
     }
 
-    // Writes their count, and them into the room for four.
-    pub(crate) fn write(&self, out: &mut [u64])
-        requires { (length (lines_of self.now) ≤ 4) × (length out.old ≡ 41) }
-        ensures { out.new ≡ length (lines_of self.now) ∷ padded 40 (lines_out (lines_of self.now)) }
+    // How many there are.
+    pub fn count_left(&self) -> usize
+        ensures { result ≡ length (lines_of self.now) }
+    {
+        self.left.len()
+    }
+
+    // Writes them to the front of out.
+    fn write_each(&self, out: &mut [u64])
+        requires { 10 * length (lines_of self.now) ≤ length out.old }
+        ensures { out.new ≡ lines_out (lines_of self.now) ++ drop (10 * length (lines_of self.now)) out.old }
     {
         let lines = *self;
-        out.fill(0);
-        out[0] = lines.left.len() as u64;
         for (i, line) in lines.enumerate() {
-            line.write(&mut out[1 + 10 * i..11 + 10 * i]);
+            line.write(&mut out[10 * i..10 * i + 10]);
         }
+    }
+
+    // Writes them into the room for four, with 0 where room is left.
+    pub(crate) fn write(&self, out: &mut [u64])
+        requires { (length (lines_of self.now) ≤ 4) × (length out.old ≡ 40) }
+        ensures { out.new ≡ padded 40 (lines_out (lines_of self.now)) }
+    {
+        self.write_each(out);
+        out[10 * self.left.len()..40].fill(0);
     }
 
     // Whether the variable stands in one of them.

@@ -2,7 +2,7 @@
 ghost use Rattle.std.specs.Prelude.{◌≡◌, ◌*◌, ◌≤◌, true, false, [], ◌∷◌, ◌++◌, length, drop, Some, MatchResult};
 ghost use Rattle.std.specs.List.{list_all};
 ghost use Rattle.std.specs.Iterator.{YieldsFirst, item_count};
-ghost use Rattle.question.specs.Layout.{terms_out, pair_term, pair_fits, padded, value_in};
+ghost use Rattle.question.specs.Layout.{terms_out, pair_term, pair_fits, two_fit, padded, value_in};
 ghost use Rattle.question.specs.Question.{at, all_at};
 ghost use Rattle.question.specs.Sound.{TermWithin};
 ghost use Rattle.question.specs.Texts.{term_text};
@@ -75,7 +75,7 @@ impl fmt::Display for Term {
 #[derive(Clone, Copy)]
 pub struct Terms<'a, const LIMIT: usize> {
     left: &'a [[u64; 2]],
-    ghost fit: { list_all (pair_fits LIMIT) left.now ≡ true },
+    ghost fit: { list_all (two_fit LIMIT) left.now ≡ true },
     ghost limit: { LIMIT ≤ 256 },
 }
 
@@ -105,17 +105,22 @@ impl<'a, const LIMIT: usize> Terms<'a, LIMIT> {
         }
     }
 
-    // Writes their count, and them into the room for four.
-    pub(crate) fn write(&self, out: &mut [u64])
-        requires { (length (terms_of self.now) ≤ 4) × (length out.old ≡ 9) }
-        ensures { out.new ≡ length (terms_of self.now) ∷ padded 8 (terms_out (terms_of self.now)) }
+    // How many there are.
+    pub fn count_left(&self) -> usize
+        ensures { result ≡ length (terms_of self.now) }
     {
-        out.fill(0);
-        out[0] = self.left.len() as u64;
-        let terms = *self;
-        for (i, term) in terms.enumerate() {
-            (out[1 + 2 * i], out[2 + 2 * i]) = term.numbers();
-        }
+        self.left.len()
+    }
+
+    // Writes them into the room for four, with 0 where room is left.
+    pub(crate) fn write(&self, out: &mut [u64])
+        requires { (length (terms_of self.now) ≤ 4) × (length out.old ≡ 8) }
+        ensures { out.new ≡ padded 8 (terms_out (terms_of self.now)) }
+    {
+        let pairs = self.left;
+        let written = pairs.as_flattened();
+        out[..written.len()].copy_from_slice(written);
+        out[written.len()..8].fill(0);
     }
 }
 

@@ -1,9 +1,9 @@
 // A line of a question, and lines one after another.
-ghost use Rattle.std.specs.Prelude.{◌≡◌, ◌*◌, ◌≤◌, true, ◌∷◌, ◌++◌, length, drop};
+ghost use Rattle.std.specs.Prelude.{◌≡◌, ◌*◌, ◌≤◌, true, ◌∷◌, ◌++◌, length, take, drop};
 ghost use Rattle.std.specs.List.{list_all};
 ghost use Rattle.std.specs.Iterator.{YieldsFirstBy, item_count};
 ghost use Rattle.question.specs.Question.{all_at};
-ghost use Rattle.question.specs.Sound.{has, vars, line_vars};
+ghost use Rattle.question.specs.Sound.{has, vars, line_vars, all_in};
 ghost use Rattle.question.specs.Layout.{line_in, line_fits, ten_fit, lines_in, lines_fit, line_out, lines_out, padded, value_in};
 
 use super::terms::Terms;
@@ -86,7 +86,7 @@ pub struct Lines<'a, const LIMIT: usize> {
 }
 
 impl<'a, const LIMIT: usize> Lines<'a, LIMIT> {
-    ghost use Rattle.question.specs.Lent.{lines_of};
+    ghost use Rattle.question.specs.Lent.{terms_of, lines_of};
 
     // The first n lines that lie in the numbers.
     pub fn first_of(numbers: &'a [u64], n: usize) -> Lines<'a, LIMIT>
@@ -103,6 +103,16 @@ impl<'a, const LIMIT: usize> Lines<'a, LIMIT> {
         ensures { result ≡ length (lines_of self.now) }
     {
         self.left.len()
+    }
+
+    // The first n of them, or all where there are fewer.
+    pub fn front(&self, n: usize) -> Lines<'a, LIMIT>
+        ensures { lines_of result ≡ take n (lines_of self.now) }
+    {
+        let lines = self.left;
+        Lines {
+            left: &lines[..n.min(lines.len())],
+        }
     }
 
     // Writes them to the front of out.
@@ -135,6 +145,21 @@ impl<'a, const LIMIT: usize> Lines<'a, LIMIT> {
             }
         }
         false
+    }
+
+    // Whether every variable among the terms stands in one of them.
+    pub(crate) fn have_all<const OTHER: usize>(&self, terms: &Terms<'_, OTHER>) -> bool
+        ensures { result ≡ all_in (vars (terms_of terms.now)) (line_vars (lines_of self.now)) }
+    {
+        for term in *terms {
+            let Term::Variable(x) = term else {
+                continue;
+            };
+            if !self.have(x) {
+                return false;
+            }
+        }
+        true
     }
 }
 

@@ -18,4 +18,4 @@ returns g c =
     let q = question_of c.args.question.now in
     let p : Question = record { row = q.row; lines = lines_of c.args.lines.now } in
     let s = part_of c.in-Some.reading.codes in
-    c.can_read_lines.ensures ∙ ap (λ (ls : List Line). is_some (read_lines ls p.lines s)) c.lines.ensures.lines ∙ sym (ap is_some (rows_match q p s (sym c.in-Some.ensures)))
+    c.can_read_lines.ensures ∙ ap (λ (ls : List Line). is_some (read_lines ls p.lines s)) c.lines-from.ensures.lines ∙ sym (ap is_some (rows_match q p s (sym c.in-Some.ensures)))

@@ -1,4 +1,4 @@
-use Rattle.std.proofs.Common.{◌≡◌, Bool, List, is_some, None, sym, ap, ◌∙◌}
+use Rattle.std.proofs.Common.{List, is_some, None, sym, ap, ◌∙◌}
 use Rattle.question.specs.Question.{Line, Question}
 use Rattle.question.specs.Lent.{lines_of, question_of}
 use Rattle.containment.specs.Search.{read_lines, can_read}

@@ -1,5 +1,5 @@
-use Rattle.rows_from_files.proofs.Lending.{table_pushed}
-use Rattle.rows_from_files.proofs.lent.push_table.Goals as goal
+use Rattle.named_files.proofs.Lending.{table_pushed}
+use Rattle.named_files.proofs.lent.push_table.Goals as goal
 
 pub returns : goal.returns
 returns c =

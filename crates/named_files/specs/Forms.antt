@@ -2,7 +2,7 @@
 use Rattle.std.specs.Prelude.{◌≡◌, ℕ, ◌*◌, cond, List, [], ◌∷◌, ◌++◌, length, vec_items, ◌==◌}
 use Rattle.question.specs.Question.{Base}
 use Rattle.wire.specs.Tables.{grid, rows_of}
-use Rattle.rows_from_files.specs.declared.lent.Numbered.{Numbered}
+use Rattle.named_files.specs.declared.lent.Numbered.{Numbered}
 
 -- a table in numbers: its own number, its rows and columns, and its cells row by row
 abbrev pub table_numbers : Numbered → List ℕ

@@ -2,7 +2,7 @@
 use Rattle.std.proofs.Common.{◌≡◌, ℕ, zero, suc, ◌<◌, List, [], ◌∷◌, length, get_or, Some, None, Option, sym, refl, ap, ◌∙◌, subst, arith, Bor, MatchOption}
 use Rattle.std.proofs.lemmas.Str.Pattern.{IsSplitOnceResult, split_after}
 use Rattle.wire.specs.Tables.{◌>>=◌, digit_more, digits_more, cell_number}
-use Rattle.rows_from_files.specs.Arguments.{Names}
+use Rattle.named_files.specs.Arguments.{Names}
 
 abbrev There : {A : Type 0} → Option A → Type 0
 There (Some a) = Unit {0}

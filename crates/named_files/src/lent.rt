@@ -2,8 +2,8 @@
 ghost use Rattle.std.specs.Prelude.{◌≡◌, ℕ, ◌++◌, IfOk, OnOk};
 ghost use Rattle.question.specs.Question.{In};
 ghost use Rattle.question.specs.Tables.{tables_in};
-ghost use Rattle.rows_from_files.specs.declared.lent.Numbered.{Numbered};
-ghost use Rattle.rows_from_files.specs.Forms.{table_numbers, lent_numbers, Full, numbered_rows};
+ghost use Rattle.named_files.specs.declared.lent.Numbered.{Numbered};
+ghost use Rattle.named_files.specs.Forms.{table_numbers, lent_numbers, Full, numbered_rows};
 
 use std::alloc::{AllocError, Global};
 use wire::Table;

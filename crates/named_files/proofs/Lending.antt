@@ -1,8 +1,8 @@
 -- One table more in the lent form.
 use Rattle.std.proofs.Common.{◌≡◌, ℕ, ◌+◌, ◌<◌, List, [], ◌∷◌, ◌++◌, length, get_or, take, vec_items, sym, ap, ◌∙◌}
 use Rattle.std.proofs.lemmas.List.{append_assoc, append-nil, take_more}
-use Rattle.rows_from_files.specs.declared.lent.Numbered.{Numbered}
-use Rattle.rows_from_files.specs.Forms.{table_numbers, tables_numbers}
+use Rattle.named_files.specs.declared.lent.Numbered.{Numbered}
+use Rattle.named_files.specs.Forms.{table_numbers, tables_numbers}
 
 pub numbers_push : (ts : List Numbered) (t : Numbered) → tables_numbers (ts ++ t ∷ []) ≡ tables_numbers ts ++ table_numbers t
 unfolding tables_numbers

@@ -1,8 +1,8 @@
 use Rattle.std.proofs.Common.{◌≡◌, ℕ, List, Some, None, sym, ◌∙◌, subst, arith}
 use Rattle.std.proofs.lemmas.Str.Pattern.{IsSplitOnceResult, split_parts}
 use Rattle.wire.specs.Tables.{cell_number}
-use Rattle.rows_from_files.proofs.Naming.{none-some, parted}
-use Rattle.rows_from_files.proofs.arguments.number_and_path.Goals as goal
+use Rattle.named_files.proofs.Naming.{none-some, parted}
+use Rattle.named_files.proofs.arguments.number_and_path.Goals as goal
 
 pub returns-in_err-number : goal.returns-in_err-number
 returns-in_err-number c =

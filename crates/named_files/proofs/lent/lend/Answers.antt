@@ -2,10 +2,10 @@ use Rattle.std.proofs.Common.{ℕ, List, ◌∷◌, length, ap, ◌∙◌, arith
 use Rattle.std.proofs.lemmas.List.{take_all}
 use Rattle.std.proofs.lemmas.Slice.{pushed}
 use Rattle.question.specs.Tables.{tables_in}
-use Rattle.rows_from_files.specs.Forms.{tables_numbers}
-use Rattle.rows_from_files.proofs.Lending.{lent_more}
-use Rattle.rows_from_files.proofs.Held.{held}
-use Rattle.rows_from_files.proofs.lent.lend.Goals as goal
+use Rattle.named_files.specs.Forms.{tables_numbers}
+use Rattle.named_files.proofs.Lending.{lent_more}
+use Rattle.named_files.proofs.Held.{held}
+use Rattle.named_files.proofs.lent.lend.Goals as goal
 
 pub loop-numbered-init : goal.loop-numbered-init
 unfolding tables_numbers

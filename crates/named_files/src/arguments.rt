@@ -1,6 +1,6 @@
 // How an argument names a table.
 ghost use Rattle.std.specs.Prelude.{ℕ, List, MatchOption};
-ghost use Rattle.rows_from_files.specs.Arguments.{Names};
+ghost use Rattle.named_files.specs.Arguments.{Names};
 
 use wire::read_number;
 

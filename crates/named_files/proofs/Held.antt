@@ -1,10 +1,11 @@
 -- What the lent form holds: the rows of the tables.
-use Rattle.std.proofs.Common.{◌≡◌, ℕ, zero, suc, ◌+◌, ◌*◌, ◌≤◌, cond, eqb, List, [], ◌∷◌, ◌++◌, length, drop, vec_items, refl, ap, ◌∙◌, arith}
+use Rattle.std.proofs.Common.{◌≡◌, ℕ, zero, suc, ◌+◌, ◌*◌, ◌≤◌, cond, eqb, List, [], ◌∷◌, ◌++◌, length, drop, vec_items, refl, ap, ◌∙◌, subst, inl, inr, arith}
 use Rattle.std.proofs.lemmas.List.{take-append-le, drop-append-le, drop_at, length-drop}
 use Rattle.question.specs.Question.{Row, In}
+use Rattle.question.proofs.Members.{in_split, in_cases}
 use Rattle.question.specs.Tables.{rows_in, table_rows, tables_in}
-use Rattle.rows_from_files.specs.declared.lent.Numbered.{Numbered}
-use Rattle.rows_from_files.specs.Forms.{table_numbers, tables_numbers, lent_numbers, Full, numbered_rows}
+use Rattle.named_files.specs.declared.lent.Numbered.{Numbered}
+use Rattle.named_files.specs.Forms.{table_numbers, tables_numbers, lent_numbers, Full, numbered_rows}
 
 -- what lies behind the cells of a table is not of its rows
 rows-front : (n columns : ℕ) (cells rest : List ℕ) → n * columns ≤ length cells → rows_in n columns (cells ++ rest) ≡ rows_in n columns cells
@@ -33,3 +34,10 @@ rows-held (t ∷ ts) h n =
 pub held : (ts : List Numbered) → ((t : Numbered) → In t ts → Full t) → (n : ℕ) → tables_in (lent_numbers ts) n ≡ numbered_rows ts n
 unfolding tables_in
 held ts h n = rows-held ts h n
+
+-- one full table more
+pub full_push : (ts after : List Numbered) (t : Numbered) → after ≡ ts ++ t ∷ [] → ((s : Numbered) → In s ts → Full s) → Full t
+    → (s : Numbered) → In s after → Full s
+full_push ts after t e h f s m =
+    let n : In s (ts ++ t ∷ []) = subst (λ (us : List Numbered). In s us) e m in
+    elim (in_split ts (t ∷ []) n) [ inl i ↦ h s i | inr i ↦ in_cases (Full s) (λ p. subst Full p f) (λ k. elim k [ ]) i ]

@@ -131,9 +131,6 @@ unfolding read_row
 row-behind bytes rest count n e p =
     rw p (then_read read_byte _ _ _ _ e ∙ behind-is 9 (count ∷ []) (times count read_term) (λ xs. in_room 9 (count ∷ xs)) rest (λ xs. refl))
 
-pub length-room : (size : ℕ) (xs : List ℕ) → length (in_room size xs) ≡ size
-length-room size xs = simp (length-append, length-replicate, length-take) (omega arith)
-
 pub reports_behind : (bytes rest : List ℕ) (count n : ℕ) → read_byte bytes ≡ Some (count, rest) → n ≡ count → n ≤ 8
     → read_reports bytes ≡ behind 401 (n ∷ []) (times n read_question rest)
 unfolding read_reports

@@ -21,11 +21,9 @@ impl<'a> Reader<'a> {
     fn number(&mut self) -> Option<u32>
         ensures { read_number (left self.old) ≡ reading result (left self.new) }
     {
-        let a = self.byte()?;
-        let b = self.byte()?;
-        let c = self.byte()?;
-        let d = self.byte()?;
-        Some(u32::from_le_bytes([a, b, c, d]))
+        let (bytes, rest) = self.rest.split_first_chunk()?;
+        self.rest = rest;
+        Some(u32::from_le_bytes(*bytes))
     }
 
     // The kind is kept as it is: whether there is such a kind is for the checks to tell.
@@ -83,8 +81,7 @@ impl<'a> Reader<'a> {
         ensures { read_reports (left self.old) ≡ reading result (left self.new) }
     {
         let count = usize::from(self.byte()?);
-        let many = count > 8;
-        if many {
+        if count > 8 {
             return None;
         }
         let mut reports = [0; 401];

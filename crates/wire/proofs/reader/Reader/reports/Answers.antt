@@ -8,8 +8,8 @@ pub returns-in_err-byte : goal.returns-in_err-byte
 unfolding read_reports
 returns-in_err-byte c = rw c.from_residual.ensures (then_short read_byte _ _ c.in_err-byte.ensures)
 
-pub returns-then-many : goal.returns-then-many
-returns-then-many c = reports_many _ _ _ _ c.in_ok-byte.ensures c.from-count.ensures (omega arith)
+pub returns-then-count-gt8 : goal.returns-then-count-gt8
+returns-then-count-gt8 c = reports_many _ _ _ _ c.in_ok-byte.ensures c.from-count.ensures (omega arith)
 
 pub returns-in_err-report : goal.returns-in_err-report
 returns-in_err-report c =

@@ -21,7 +21,7 @@ returns-in_err-question-clause-answer c =
     rw (e.1, e.2, n.1) (
       ap value
           (then_read read_reports _ _ _ _ (c.reports.ensures ∙ ap (λ o. reading o (left c.reports.new.self)) s)
-          ∙ then_short read_question _ _ (c.question.ensures ∙ ap (λ o. reading o (left c.question.new.self)) n.0)),
+          ∙ then_short read_question _ _ (c.question.ensures.read ∙ ap (λ o. reading o (left c.question.new.self)) n.0)),
       refl,
     )
 
@@ -32,4 +32,4 @@ returns-clause-answer c =
     let n = some_from c.question.result _ _ c.in_ok-question.ensures.value in
     ap value
     (then_read read_reports _ _ _ _ (c.reports.ensures ∙ ap (λ o. reading o (left c.reports.new.self)) s)
-    ∙ then_read read_question _ _ _ _ (c.question.ensures ∙ ap (λ o. reading o (left c.question.new.self)) n))
+    ∙ then_read read_question _ _ _ _ (c.question.ensures.read ∙ ap (λ o. reading o (left c.question.new.self)) n))

@@ -59,19 +59,11 @@ impl fmt::Display for Tally {
     }
 }
 
-// The number that a term is, and 0 for a variable.
-fn number_of(term: &Term) -> u64 {
-    match *term {
-        Term::Number(n) => n,
-        Term::Variable(_) => 0,
-    }
-}
-
 // The rows that the question answers, by all values for all variables: in order and each once.
 fn second_way(heap: Global, question: &Plain, rows: &[Line]) -> Result<Vec<Vec<u64>>, AllocError> {
     let mut found = Vec::new(heap);
     for image in images(heap, question, rows)?.iter() {
-        found.push(image.iter().map(number_of).collect(heap)?)?;
+        found.push(image.iter().map(|term| term.number()).collect(heap)?)?;
     }
     found.sort_unstable();
     Ok(found)

@@ -5,13 +5,14 @@ use super::draft::x;
 use super::draw::draw_cell;
 use super::lent::{Table, lent_tables, rows_of};
 use super::plain::{Line, Plain, Term};
+use super::reading::Map;
 use super::rooms::{Call, size};
 use super::shown::Numbers;
 use std::alloc::{AllocError, Global};
 use std::io;
 
 // What the variables x0 to x7 are put as.
-type Values = [Option<Term>; 8];
+type Values = Map<8>;
 
 // What was compared.
 #[derive(Clone, Copy, Default)]
@@ -147,24 +148,6 @@ fn draw_row(heap: Global, dice: &mut Dice, lines: &[Line]) -> Result<Vec<Term>, 
     Ok(row)
 }
 
-// The values that also put the line as the row, if there are any.
-fn extended(values: &Values, line: &Line, row: &Line) -> Option<Values> {
-    if !line.is_like(row) {
-        return None;
-    }
-    let mut more = *values;
-    for (term, cell) in line.terms.iter().zip(row.terms.iter()) {
-        let put = match *term {
-            Term::Number(_) => *term,
-            Term::Variable(x) => *more.get_mut(x as usize)?.get_or_insert(*cell),
-        };
-        if put != *cell {
-            return None;
-        }
-    }
-    Some(more)
-}
-
 // All values that also put the line as one of the rows.
 fn with_line(
     heap: Global,
@@ -175,7 +158,9 @@ fn with_line(
     let mut more = Vec::new(heap);
     for value in values {
         for row in rows {
-            if let Some(next) = extended(value, line, row) {
+            if line.table == row.table
+                && let Some(next) = value.with(&line.terms, &row.terms)
+            {
                 more.push(next)?;
             }
         }
@@ -183,26 +168,14 @@ fn with_line(
     Ok(more)
 }
 
-// The number that a term is under values.
-fn number_under(values: &Values, term: &Term) -> u64 {
-    let put = match *term {
-        Term::Number(_) => Some(*term),
-        Term::Variable(x) => values.get(x as usize).copied().flatten(),
-    };
-    match put {
-        Some(Term::Number(n)) => n,
-        _ => 0,
-    }
-}
-
 fn second_way(heap: Global, question: &Plain, rows: &[Line]) -> Result<Vec<Vec<u64>>, AllocError> {
-    let mut values = Vec::from_array(heap, [[None; 8]])?;
+    let mut values = vec![in heap; Values::new()]?;
     for line in &question.lines {
         values = with_line(heap, &values, line, rows)?;
     }
     let mut found = Vec::new(heap);
     for value in &values {
-        let row = question.row.iter().map(|term| number_under(value, term));
+        let row = question.row.iter().map(|term| value.image(*term).number());
         found.push(row.collect(heap)?)?;
     }
     found.sort_unstable();

@@ -63,7 +63,7 @@ impl Table {
     fn lend(&self, lent: &mut Vec<u64>) -> Result<(), AllocError> {
         lent.extend_from_slice(&[self.number, self.height, self.width])?;
         for row in &self.rows {
-            lent.extend_from_slice(&row)?;
+            lent.extend_from_slice(row)?;
         }
         Ok(())
     }

@@ -1,6 +1,6 @@
 // The second way to a question over reports: the widest question by all maps, then every choice of its lines put back into the tables' words.
 use super::asked::Request;
-use super::choices::smallest;
+use super::choices::{Found, smallest};
 use super::counts::Count;
 use super::plain::{Line, Plain, Term};
 use super::reading::{Map, images, maps_into, reads};
@@ -12,10 +12,7 @@ const MOST_BACK: u64 = 40000;
 // What the second way finds.
 #[derive(Drop)]
 pub struct Second {
-    // The lines of the first choice that does, if any does.
-    pub lines: Option<Vec<Line>>,
-    // How many choices of that size do.
-    pub equal: u64,
+    pub found: Found,
     pub read: Read,
 }
 
@@ -40,7 +37,7 @@ pub fn held(heap: Global, reports: &[Plain], lines: &[Line]) -> Result<Vec<Line>
 }
 
 // Where a use puts its report's variables: those of the row as the use's terms, and every other as a variable of its own.
-fn map_of_use(report: &Plain, line: &Line, number: usize) -> Map {
+fn map_of_use(report: &Plain, line: &Line, number: usize) -> Map<80> {
     let mut map = Map::new();
     for x in 0..16u64 {
         let inner = 16 + 16 * (number as u64 % 4) + x;
@@ -106,9 +103,5 @@ pub fn second_way(heap: Global, request: &Request) -> Result<Second, AllocError>
         let put_in = expansion(heap, &question.row, uses, reports)?;
         read.says_the_same(heap, question, &put_in)
     })?;
-    Ok(Second {
-        lines: found.lines,
-        equal: found.equal,
-        read,
-    })
+    Ok(Second { found, read })
 }

@@ -12,6 +12,14 @@ impl Term {
     pub fn is_variable(self) -> bool {
         matches!(self, Term::Variable(_))
     }
+
+    // The number that it is, and 0 for a variable.
+    pub fn number(self) -> u64 {
+        match self {
+            Term::Number(n) => n,
+            Term::Variable(_) => 0,
+        }
+    }
 }
 
 // As a term is lent: its kind, and its number or variable.

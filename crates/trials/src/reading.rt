@@ -2,29 +2,14 @@
 use super::plain::{Line, Plain, Term};
 use std::alloc::{AllocError, Global};
 
-// What each variable below 80 is put as, if it is.
+// What each variable below N is put as, if it is.
 #[derive(Clone, Copy)]
-pub struct Map([Option<Term>; 80]);
+pub struct Map<const N: usize>([Option<Term>; N]);
 
-impl Map {
+impl<const N: usize> Map<N> {
     // The map that puts nothing yet.
     pub fn new() -> Self {
-        Map([None; 80])
-    }
-
-    // The map of a row's variables by which it becomes another, if there is one.
-    fn of_row(row: &[Term], other: &[Term]) -> Option<Self> {
-        let mut map = Map::new();
-        for (term, image) in row.iter().zip(other) {
-            if let Term::Variable(x) = *term {
-                map.put(x, map.get(x).unwrap_or(*image));
-            }
-        }
-        if map.makes(row, other) {
-            Some(map)
-        } else {
-            None
-        }
+        Map([None; N])
     }
 
     fn get(&self, variable: u64) -> Option<Term> {
@@ -32,14 +17,28 @@ impl Map {
     }
 
     pub fn put(&mut self, variable: u64, term: Term) {
-        let x = variable as usize;
-        if x < 80 {
-            self.0[x] = Some(term);
+        if let Some(place) = self.0.get_mut(variable as usize) {
+            *place = Some(term);
+        }
+    }
+
+    // The map that goes on from this one so that the terms become the others, if there is one.
+    pub fn with(&self, terms: &[Term], others: &[Term]) -> Option<Self> {
+        let mut map = *self;
+        for (term, other) in terms.iter().zip(others) {
+            if let Term::Variable(x) = *term {
+                map.put(x, map.get(x).unwrap_or(*other));
+            }
+        }
+        if map.makes(terms, others) {
+            Some(map)
+        } else {
+            None
         }
     }
 
     // What a term becomes: a number stays, and a variable that isn't put.
-    fn image(&self, term: Term) -> Term {
+    pub fn image(&self, term: Term) -> Term {
         match term {
             Term::Number(_) => term,
             Term::Variable(x) => self.get(x).unwrap_or(term),
@@ -89,7 +88,7 @@ struct Free {
 }
 
 // The variables of lines that a map doesn't put, each once, at the first of the terms.
-fn free_of(heap: Global, map: &Map, lines: &[Line]) -> Result<Vec<Free>, AllocError> {
+fn free_of(heap: Global, map: &Map<80>, lines: &[Line]) -> Result<Vec<Free>, AllocError> {
     let mut free = Vec::new(heap);
     for term in terms_of(heap, lines)?.iter() {
         match *term {
@@ -108,7 +107,7 @@ pub fn count_maps(terms: usize, variables: usize) -> u64 {
 }
 
 // The next map: the first variable goes on to its next term; from the last it goes back to the first, and the variable after it goes on.
-fn step(map: &mut Map, free: &mut [Free], terms: &[Term]) {
+fn step(map: &mut Map<80>, free: &mut [Free], terms: &[Term]) {
     for one in free.iter_mut() {
         let next = one.place.saturating_add(1);
         let more = next < terms.len();
@@ -123,9 +122,9 @@ fn step(map: &mut Map, free: &mut [Free], terms: &[Term]) {
 }
 
 // Goes through all maps that go on from one and put the lines among the others, until one is enough; false where none is.
-fn any_fit<F: FnMut(&Map) -> Result<bool, AllocError>>(
+fn any_fit<F: FnMut(&Map<80>) -> Result<bool, AllocError>>(
     heap: Global,
-    from: &Map,
+    from: &Map<80>,
     lines: &[Line],
     others: &[Line],
     mut enough: F,
@@ -168,7 +167,7 @@ pub fn images(
 
 // How many maps there are of one question into another that put its row as the other's.
 pub fn maps_into(heap: Global, question: &Plain, other: &Plain) -> Result<u64, AllocError> {
-    let Some(map) = Map::of_row(&question.row, &other.row) else {
+    let Some(map) = Map::new().with(&question.row, &other.row) else {
         return Ok(0);
     };
     let free = free_of(heap, &map, &question.lines)?;
@@ -178,7 +177,7 @@ pub fn maps_into(heap: Global, question: &Plain, other: &Plain) -> Result<u64, A
 
 // Whether some map puts the lines among the other's and the row as the other's. What the row fixes is fixed; every other variable is put as each term.
 pub fn reads(heap: Global, question: &Plain, other: &Plain) -> Result<bool, AllocError> {
-    let Some(map) = Map::of_row(&question.row, &other.row) else {
+    let Some(map) = Map::new().with(&question.row, &other.row) else {
         return Ok(false);
     };
     let lines = &question.lines;

@@ -100,14 +100,11 @@ impl Said {
 impl Tally {
     // Counts what the second way found, of so many uses to choose from.
     fn count_in(&mut self, second: &Second, widest: usize) {
-        let uses = match &second.lines {
-            Some(lines) => lines.len(),
-            None => 0,
-        };
+        let uses = second.found.lines.as_ref().map_or(0, |uses| uses.len());
         if let Some(by) = self.by.get_mut(uses) {
             by.add(1);
         }
-        self.several.add_if(second.equal > 1);
+        self.several.add_if(second.found.equal > 1);
         self.wide.add_if(widest > 12);
         self.full.add_if(widest == 32);
         self.read.both_ways.add(second.read.both_ways.number());
@@ -148,7 +145,7 @@ impl Tally {
         }
         let second = second_way(heap, request)?;
         self.count_in(&second, request.widest.len());
-        let found = match second.lines {
+        let found = match second.found.lines {
             Some(lines) => Some(Plain {
                 row: request.question.row.clone()?,
                 lines,

@@ -14,7 +14,7 @@ use super::plan::plan;
 use super::reply::Answer;
 use super::slots::SlotPlan;
 use super::tables::{check_tables, whole};
-use join::put_out;
+use join::{Join, NoRoomAfter, Setting};
 use narrow::narrow;
 use question::{Refusal, check_question};
 use std::alloc::{AllocError, Global};
@@ -54,7 +54,7 @@ fn put_rows(
     plan: &SlotPlan,
     rows: Vec<[u64; 5]>,
     out: &mut [u64],
-) -> Result<Result<usize, usize>, AllocError>
+) -> Result<Result<usize, NoRoomAfter>, AllocError>
     requires { Joinable (plan_in plan.now) }
     ensures { MatchResult result
         (λ put. PutOut (asked_by (plan_in plan.now) rows.items) out.old out.new put)
@@ -64,17 +64,18 @@ fn put_rows(
     let left = narrow(
         heap, rows, &mut lines, plan.n, plan.shown, plan.k, &plan.env,
     )?;
-    let put = put_out(
-        &left,
-        &lines,
-        plan.n,
-        plan.shown,
-        plan.k,
-        &plan.env,
-        &plan.row[..plan.width],
-        out,
-    );
-    Ok(put)
+    let setting = Setting {
+        n: plan.n,
+        shown: plan.shown,
+        k: plan.k,
+        env: plan.env,
+    };
+    let join = Join {
+        rows: &left,
+        lines: &lines,
+        setting: &setting,
+    };
+    Ok(join.put_out(&plan.row[..plan.width], out))
 }
 
 // Answers the question from the tables: every row once, in order, one after another from the front of out.
@@ -94,6 +95,6 @@ pub fn answer(heap: Global, question: &[u64], tables: &[u64], out: &mut [u64]) -
     };
     match put {
         Ok(count) => Answer::Rows(count as u64),
-        Err(count) => Answer::Refused(Refusal::NoRoomForRow(count as u64)),
+        Err(NoRoomAfter(count)) => Answer::Refused(Refusal::NoRoomForRow(count as u64)),
     }
 }

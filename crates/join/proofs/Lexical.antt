@@ -1,9 +1,9 @@
 -- The order of arrays of numbers, told by the first place where they differ.
-use Rattle.std.proofs.Common.{◌≡◌, ℕ, zero, suc, ◌<◌, ◌≤◌, ltb, ◌≢◌, ◌⊎◌, true, false, List, [], ◌∷◌, length, get_or, is_ok, Ok, Err, Result, Ordering, Less, Equal, Greater, refl, sym, ap, ◌∙◌, subst, inl, inr, arith}
+use Rattle.std.proofs.Common.{◌≡◌, ℕ, zero, suc, ◌<◌, ◌≤◌, Bool, ltb, ◌≢◌, ◌⊎◌, true, false, List, [], ◌∷◌, length, get_or, is_ok, Ok, Err, Result, Ordering, Less, Equal, Greater, refl, sym, ap, ◌∙◌, subst, inl, inr, arith}
 use Rattle.std.specs.Ordering.{is_lt, MatchOrdering, ordering_index, ordering_reverse, ordering_then, nat_cmp}
 use Rattle.std.specs.Cmp.{ranks, nat_cmp_total}
 use Rattle.std.specs.Cmp.Lexicographic.{slice_cmp, lists_total}
-use Rattle.std.specs.List.Sorted.{IsBinarySearchResult, IsNonDecreasingBy, IsPartitionedBy, IsSearchInRange, IsSortedWithin}
+use Rattle.std.specs.List.Sorted.{IsBinarySearchResult, IsNonDecreasingBy, IsSearchInRange, IsSortedWithin}
 use Rattle.std.proofs.lemmas.Bool.{cases_lt}
 use Rattle.std.proofs.lemmas.Bool.Decides.{nat_tests}
 use Rattle.std.proofs.lemmas.Cmp.{tied_itself}
@@ -32,7 +32,7 @@ less-at (x ∷ xs) (y ∷ ys) zero s l = smaller x y (slice_cmp nat_cmp xs ys) (
 less-at (x ∷ xs) (y ∷ ys) (suc p) s l =
     equal x y (slice_cmp nat_cmp xs ys) (nat_cmp x y) (ranks x y) (s 0 (omega arith)) ∙ less-at xs ys p (λ i h. s (suc i) (omega arith)) l
 
-pub less-by : (n : ℕ) (xs ys : List ℕ) → Before n (cells xs) (cells ys) → is_lt (slice_cmp nat_cmp xs ys) ≡ true
+less-by : (n : ℕ) (xs ys : List ℕ) → Before n (cells xs) (cells ys) → is_lt (slice_cmp nat_cmp xs ys) ≡ true
 less-by n xs ys b = less-at xs ys b.place b.same b.less
 
 later-place : (n x y : ℕ) (xs ys : List ℕ) → x ≡ y → Before n (cells xs) (cells ys) → Before (suc n) (cells (x ∷ xs)) (cells (y ∷ ys))
@@ -48,8 +48,7 @@ before-at n x y xs ys Less h t f = record { place = 0; inside = omega arith; sam
 before-at n x y xs ys Equal h t f = later-place n x y xs ys h (f t)
 before-at n x y xs ys Greater h t f = absurd (let z : ◌≡◌ {A = ℕ} 0 1 = cc in omega arith)
 
--- of two rows as long, one comes before the other as arrays do
-pub before-by : (n : ℕ) (xs ys : List ℕ) → length xs ≡ n → length ys ≡ n → is_lt (slice_cmp nat_cmp xs ys) ≡ true → Before n (cells xs) (cells ys)
+before-by : (n : ℕ) (xs ys : List ℕ) → length xs ≡ n → length ys ≡ n → is_lt (slice_cmp nat_cmp xs ys) ≡ true → Before n (cells xs) (cells ys)
 before-by n [] [] p q t = absurd (let z : ◌≡◌ {A = ℕ} 0 1 = cc in omega arith)
 before-by n [] (y ∷ ys) p q t = absurd (omega arith)
 before-by n (x ∷ xs) [] p q t = absurd (omega arith)
@@ -75,6 +74,14 @@ at-end (x ∷ xs) ys l (inl e) = absurd (let z : ◌≡◌ {A = ℕ} 0 1 = cc in
 at-end (x ∷ xs) [] l (inr e) = absurd (omega arith)
 at-end (x ∷ xs) (y ∷ ys) l (inr e) = absurd (let z : ◌≡◌ {A = ℕ} 0 1 = cc in omega arith)
 
+-- of two rows as long, the order of arrays tells which comes before the other
+pub tells : (n : ℕ) (xs ys : List ℕ) (r : Bool) → length xs ≡ n → length ys ≡ n → r ≡ is_lt (slice_cmp nat_cmp xs ys)
+    → (r ≡ true → Before n (cells xs) (cells ys)) × (r ≡ false → Before n (cells xs) (cells ys) → ⊥)
+tells n xs ys r p q e = (
+  λ t. before-by n xs ys p q (sym e ∙ t),
+  λ f b. let l = less-by n xs ys b in let z : ◌≡◌ {A = ℕ} 0 1 = cc in omega arith,
+)
+
 is-less : (o : Ordering) → is_lt o ≡ true → o ≡ Less
 is-less Less e = refl
 is-less Equal e = absurd (let z : ◌≡◌ {A = ℕ} 0 1 = cc in omega arith)
@@ -95,14 +102,6 @@ rise Greater Equal f g = absurd (g refl refl)
 rise Greater Greater f g = omega arith
 
 module _ (rows : List (List ℕ)) (key : List ℕ) (wide : (i : ℕ) → i < length rows → length (get_or rows i []) ≡ 5) (key_wide : length key ≡ 5) (up : Sorted rows) where
-  -- rows in order come before a key up to a place
-  pub parted : IsPartitionedBy (λ y. is_lt (slice_cmp nat_cmp y key)) rows
-  parted i j d h g t =
-      let e = get_or_default rows i d [] (omega arith) in
-      let f = get_or_default rows j d [] g in
-      let b = before-by 5 (get_or rows j []) key (wide j g) key_wide (ap (λ y. is_lt (slice_cmp nat_cmp y key)) (sym f) ∙ t) in
-      ap (λ y. is_lt (slice_cmp nat_cmp y key)) e ∙ less-by 5 (get_or rows i []) key (le_before 5 (row_at rows i) (row_at rows j) (cells key) (up i j h g) b)
-
   lower-or-same : (i j : ℕ) → i ≤ j → j < length rows → slice_cmp nat_cmp (get_or rows j []) key ≡ Less → slice_cmp nat_cmp (get_or rows i []) key ≡ Less
   lower-or-same i j h g e =
       let b = before-by 5 (get_or rows j []) key (wide j g) key_wide (ap is_lt e) in

@@ -1,4 +1,4 @@
-use Rattle.std.proofs.Common.{ℕ, [], length, get_or, sym, ap, ◌∙◌, arith}
+use Rattle.std.proofs.Common.{[], length, get_or, sym, ap, ◌∙◌, arith}
 use Rattle.std.proofs.lemmas.Grind.{same_number_lists}
 use Rattle.join.proofs.Bounds.{key_at}
 use Rattle.join.proofs.Lexical.{not-there, there}

@@ -1,4 +1,4 @@
-use Rattle.std.proofs.Common.{arith, refl}
+use Rattle.std.proofs.Common.{arith}
 use Rattle.join.proofs.Bounds.{line_of}
 use Rattle.join.proofs.asking.Join.bound.Goals as goal
 use Rattle.join.proofs.asking.Join.bound.Goals.{then-names+in_ok-least, else-names}

@@ -60,16 +60,14 @@ fn put_rows(
         (λ put. PutOut (asked_by (plan_in plan.now) rows.items) out.old out.new put)
         (λ _. out.new ≡ out.old) }
 {
-    let mut lines = Vec::from_slice(heap, &plan.lines[..plan.count])?;
-    let left = narrow(
-        heap, rows, &mut lines, plan.n, plan.shown, plan.k, &plan.env,
-    )?;
     let setting = Setting {
         n: plan.n,
         shown: plan.shown,
         k: plan.k,
         env: plan.env,
     };
+    let mut lines = Vec::from_slice(heap, &plan.lines[..plan.count])?;
+    let left = narrow(heap, rows, &mut lines, &setting)?;
     let join = Join {
         rows: &left,
         lines: &lines,

@@ -35,16 +35,12 @@ fn kept(lines: &[SlotLine], a: usize, b: usize, shown: usize, j: usize) -> bool
 }
 
 // The line that two lines become, if it has at most four slots besides its number's.
-pub(crate) fn gather(
-    lines: &[SlotLine],
-    a: usize,
-    b: usize,
-    setting: &Setting,
-) -> Option<SlotLine>
+pub(crate) fn gather(lines: &[SlotLine], a: usize, b: usize, setting: &Setting) -> Option<SlotLine>
     requires { (a < length lines.now) × ((b < length lines.now) × (AllBelow setting.now.n lines.now)) }
     ensures { IfSome result (λ new. Gathered lines.now a b setting.now.shown setting.now.k new) }
 {
     let mut new = [lines[a][0]; 5];
+    // How many columns the new line has.
     let mut w = 1;
     for j in setting.k..setting.n {
         if kept(lines, a, b, setting.shown, j) {

@@ -26,7 +26,7 @@ fn numbered(row: &Row, number: u64) -> Row
     [number, row[1], row[2], row[3], row[4]]
 }
 
-// Whether a number is neither of two.
+// Whether a number is neither of two. Kept: its clauses tell more than the parts of a failed `&&`.
 fn neither(number: u64, x: u64, y: u64) -> bool
     ensures yes { result ≡ true → (number ≢ x) × (number ≢ y) }
     ensures no { result ≡ false → (number ≡ x) ⊎ (number ≡ y) }
@@ -69,7 +69,13 @@ pub(crate) struct TwoLines<'a> {
 
 impl TwoLines<'_> {
     // Puts the new line's row behind the others, if the lines stand together on the row and the row of the key at p.
-    fn push_pair(&self, out: &mut Vec<Row>, row: &Row, keys: &[Row], p: usize) -> Result<(), AllocError>
+    fn push_pair(
+        &self,
+        out: &mut Vec<Row>,
+        row: &Row,
+        keys: &[Row],
+        p: usize,
+    ) -> Result<(), AllocError>
         requires { p < length keys.now }
         ensures { is_ok result ≡ true → Matched self.now.first.now self.now.second.now self.now.new.now self.now.setting.now.k self.now.setting.now.env (cells row.now) keys.now (λ q. q ≡ p) out.old.items out.new.items }
     {
@@ -81,13 +87,20 @@ impl TwoLines<'_> {
     }
 
     // Puts the new line's rows behind the others for a row of the first line, by the keys with its number.
-    fn push_pairs(&self, out: &mut Vec<Row>, row: &Row, keys: &[Row], column: usize) -> Result<(), AllocError>
+    fn push_pairs(
+        &self,
+        out: &mut Vec<Row>,
+        row: &Row,
+        keys: &[Row],
+        column: usize,
+    ) -> Result<(), AllocError>
         requires { (Sorted keys.now) × (column < 5) }
         ensures { is_ok result ≡ true → Matched self.now.first.now self.now.second.now self.now.new.now self.now.setting.now.k self.now.setting.now.env (cells row.now) keys.now
             (λ q. row_at keys.now q 0 ≡ slice_index row.now column) out.old.items out.new.items }
     {
         let x = row[column];
         let start = lower(keys, &[x, 0, 0, 0, 0]);
+        // The index is needed: what is said of a pair names the key's place.
         for p in start..keys.len() {
             if keys[p][0] > x {
                 return Ok(());
@@ -98,7 +111,13 @@ impl TwoLines<'_> {
     }
 
     // The new line's rows, by the rows and the keys; None if they are too many.
-    fn pair_all(&self, heap: Global, rows: &[Row], keys: &[Row], column: usize) -> Result<Option<Vec<Row>>, AllocError>
+    fn pair_all(
+        &self,
+        heap: Global,
+        rows: &[Row],
+        keys: &[Row],
+        column: usize,
+    ) -> Result<Option<Vec<Row>>, AllocError>
         requires { (Sorted keys.now) × (column < 5) }
         ensures { IfOk result (λ o. IfSome o (λ v. Paired self.now.first.now self.now.second.now self.now.new.now self.now.setting.now.k self.now.setting.now.env rows.now (length rows.now) keys.now column v.items)) }
     {
@@ -128,7 +147,12 @@ impl TwoLines<'_> {
     }
 
     // The rows after two lines are made into one, in order; None if they are too many.
-    pub(crate) fn merge(&self, heap: Global, rows: &[Row], s: usize) -> Result<Option<Vec<Row>>, AllocError>
+    pub(crate) fn merge(
+        &self,
+        heap: Global,
+        rows: &[Row],
+        s: usize,
+    ) -> Result<Option<Vec<Row>>, AllocError>
         requires { (Names self.now.first.now s) × ((Names self.now.second.now s) × ((slot self.now.first.now 0 < self.now.setting.now.k) × (slot self.now.second.now 0 < self.now.setting.now.k))) }
         ensures { IfOk result (λ o. IfSome o (λ v. Sorted v.items × Merged rows.now self.now.first.now self.now.second.now self.now.new.now self.now.setting.now.k self.now.setting.now.env v.items)) }
     {

@@ -15,6 +15,7 @@ use std::alloc::{AllocError, Global};
 fn next_with(lines: &[SlotLine], s: usize, from: usize) -> Option<usize>
     ensures some { IfSome result (λ i. (from ≤ i) × (i < length lines.now) × Names (slice_index_or lines.now i []) s) }
 {
+    // The index is needed: the line's place is what is asked for.
     for i in from..lines.len() {
         if names(&lines[i], s) {
             return Some(i);

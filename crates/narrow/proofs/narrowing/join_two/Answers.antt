@@ -39,8 +39,7 @@ merge-requires c =
     let g : Gathered lines a b c.args.setting.now.shown c.args.setting.now.k c.in-Some.new = subst (λ xs. Gathered xs a b c.args.setting.now.shown c.args.setting.now.k c.in-Some.new) c.deref-2.ensures.value c.in-Some.ensures in
     let p : Apart lines a b c.args.setting.now.k c.args.setting.now.env = subst (λ xs. Apart xs a b c.args.setting.now.k c.args.setting.now.env) c.deref.ensures.value (c.if-not-apart.ensures refl) in
     let low-a : SlotsBelow 24 (get_or lines a []) = λ d h. omega (arith, c.requires.counts a a_in d h, c.args.setting.now.few) in
-    let low-b : SlotsBelow 24 (get_or lines b []) = λ d h. omega (arith, c.requires.counts b b-in d h, c.args.setting.now.few) in
-    (
+    let low-b : SlotsBelow 24 (get_or lines b []) = λ d h. omega (arith, c.requires.counts b b-in d h, c.args.setting.now.few) in (
       subst (λ x. Names x c.args.s) (sym first) c.requires.lines.1.1.0,
       (
         subst (λ x. Names x c.args.s) (sym second) c.requires.lines.1.1.1,

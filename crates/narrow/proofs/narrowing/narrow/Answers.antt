@@ -1,4 +1,4 @@
-use Rattle.std.proofs.Common.{◌≡◌, vec_items, sym, subst, MatchOption}
+use Rattle.std.proofs.Common.{◌≡◌, vec_items, subst, MatchOption}
 use Rattle.join.specs.Order.{Sorted}
 use Rattle.narrow.specs.Narrowed.{Narrowed}
 use Rattle.narrow.proofs.AnswersSame.{narrowed_same, narrowed_more}

@@ -1,8 +1,4 @@
 use Rattle.std.proofs.Common.{◌+◌, [], get_or, vec_items, sym, refl, ap, ◌∙◌, subst, arith}
-use Rattle.std.proofs.lemmas.Result.{IfOk-weaker}
-use Rattle.join.specs.Order.{Sorted}
-use Rattle.narrow.specs.Rows.{SameRows}
-use Rattle.narrow.specs.Joining.{Merged}
 use Rattle.narrow.proofs.Shortening.{Projecting, projecting-line, projecting-other, projected}
 use Rattle.narrow.proofs.projecting.project.Goals as goal
 use Rattle.narrow.proofs.projecting.project.Goals.{then-row-number+in_ok-push_shortened, else-row-number+in_ok-push}

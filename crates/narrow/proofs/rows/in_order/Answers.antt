@@ -1,5 +1,4 @@
 use Rattle.std.proofs.Common.{vec_items}
-use Rattle.std.specs.Cmp.Lexicographic.{pointwise}
 use Rattle.std.proofs.lemmas.List.Filters.{dedup_is}
 use Rattle.narrow.proofs.Holding.{same_shuffled, same_more}
 use Rattle.narrow.proofs.Repeating.{once}

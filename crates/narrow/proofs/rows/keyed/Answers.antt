@@ -1,7 +1,4 @@
 use Rattle.std.proofs.Common.{◌+◌, vec_items, sym, ap, ◌∙◌, subst, arith}
-use Rattle.join.specs.Order.{Sorted}
-use Rattle.narrow.specs.Rows.{Keyed, SameRows}
-use Rattle.std.proofs.lemmas.Result.{IfOk-weaker}
 use Rattle.narrow.proofs.Repeating.{Keying, keying-none, keying-more, keyed-by}
 use Rattle.narrow.proofs.rows.keyed.Goals as goal
 use Rattle.narrow.proofs.rows.keyed.Goals.{then-row-number+in_ok-push, else-row-number}

@@ -13,9 +13,9 @@ fn show(
 ) -> io::Result<()> {
     let mut all = [7; 64];
     match within(first, second, &mut all[..size.min(64)]) {
-        Containment::Within => println!(rt; "{name}: within"),
-        Containment::Refused(refusal) => println!(rt; "{name}: {refusal}"),
-        Containment::Apart(count) => {
+        Err(refusal) => println!(rt; "{name}: {refusal}"),
+        Ok(Containment::Within) => println!(rt; "{name}: within"),
+        Ok(Containment::Apart(count)) => {
             print!(rt; "{name}: apart, by the tables")?;
             for cell in all.iter().take(count as usize) {
                 print!(rt; " {cell}")?;

@@ -7,6 +7,7 @@ use super::reading::{count_maps, images, reads, terms_of};
 use super::shown::Numbers;
 use super::tables::all_among;
 use containment::{Containment, within};
+use question::Refusal;
 use std::alloc::{AllocError, Global};
 use std::io;
 
@@ -136,7 +137,7 @@ impl Tally {
     fn agrees(
         &mut self,
         heap: Global,
-        said: Containment,
+        said: Result<Containment, Refusal>,
         first: &Plain,
         second: &Plain,
         room: &[u64; 66],
@@ -145,15 +146,15 @@ impl Tally {
         self.within.add_if(inside);
         self.apart.add_if(!inside);
         match said {
-            Containment::Within => Ok(inside && untouched(room)),
-            Containment::Apart(size) => {
+            Ok(Containment::Within) => Ok(inside && untouched(room)),
+            Ok(Containment::Apart(size)) => {
                 let Some((tables, behind)) = room.split_at_checked(size as usize) else {
                     return Ok(false);
                 };
                 let apart = tells_apart(heap, first, second, tables)?;
                 Ok(!inside && apart && untouched(behind))
             }
-            Containment::Refused(_) => Ok(false),
+            Err(_) => Ok(false),
         }
     }
 

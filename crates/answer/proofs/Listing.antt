@@ -165,6 +165,9 @@ put-length xs (c ∷ cs) = let a = one-length xs c in let b = put-length (put_in
 pub put-room : (xs cs ys : List ℕ) → ys ≡ all_put_in xs cs → length ys ≤ length xs + length cs
 put-room xs cs ys e = rw e (put-length xs cs)
 
+pub put-longer : (xs cs ys : List ℕ) → ys ≡ all_put_in xs cs → length xs ≤ length ys
+put-longer xs cs ys e = rw e (begins-length xs (all_put_in xs cs) (all-begin xs cs))
+
 -- whether a number is there, and its place
 place-most : (xs : List ℕ) (c : ℕ) → first_place xs c ≤ length xs
 unfolding first_place

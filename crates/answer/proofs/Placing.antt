@@ -8,8 +8,8 @@ use Rattle.question.specs.Sound.{Allowed}
 use Rattle.question.proofs.Members.{sound_parts}
 use Rattle.answer.specs.declared.codes.Kind.TheVariants.{Numbers, Variables}
 use Rattle.answer.specs.Terms.{first_place, place_in, put_in, all_put_in, codes_of, line_codes}
-use Rattle.answer.proofs.Listing.{Begins, begins-on, begins-length, begins-at, begins-place, Different, one_in, still, all-begin, all-different, all-stand_in, all_new}
-use Rattle.answer.proofs.Gathering.{number-code, variable_code, code-number, code_variable, line_code, code-line}
+use Rattle.answer.proofs.Listing.{Begins, begins-on, begins-length, begins-at, begins-place, Different, one_in, still, all-begin, all-different, all-stand_in, all_new, put-length, put-room, put-longer}
+use Rattle.answer.proofs.Gathering.{codes_few, number-code, variable_code, code-number, code_variable, line_code, code-line}
 
 -- a slot's first column in the row: those before have lower slots
 pub record FirstShown (place : Term → ℕ) (ts : List Term) (j : ℕ) : Type 0 where
@@ -51,6 +51,16 @@ pub record Listed (q : Question) (known shown all : List ℕ) : Type 0 where
   pub numbers : known ≡ all_put_in (all_put_in (0 ∷ 1 ∷ 2 ∷ 3 ∷ []) (codes_of Numbers q.row)) (line_codes Numbers q.lines)
   pub row : shown ≡ all_put_in known (codes_of Variables q.row)
   pub lines : all ≡ all_put_in shown (line_codes Variables q.lines)
+
+pub listed-few : (q : Question) → Allowed q → (known shown all : List ℕ) → Listed q known shown all → (length known ≤ length shown) × (length all ≤ 24)
+listed-few q a known shown all l =
+    let f = codes_few q a in
+    let start : List ℕ = 0 ∷ 1 ∷ 2 ∷ 3 ∷ [] in
+    let one = put-length start (codes_of Numbers q.row) in
+    let two = put-room (all_put_in start (codes_of Numbers q.row)) (line_codes Numbers q.lines) known l.numbers in
+    let three = put-room known (codes_of Variables q.row) shown l.row in
+    let four = put-room shown (line_codes Variables q.lines) all l.lines in
+    (put-longer known (codes_of Variables q.row) shown l.row, omega (arith, f, one, two, three, four))
 
 -- the line numbers as they are
 same_place : (c : ℕ) → c < 4 → get_or (0 ∷ 1 ∷ 2 ∷ 3 ∷ []) c 0 ≡ c

@@ -12,8 +12,8 @@ use Rattle.question.specs.Sound.{Allowed}
 use Rattle.question.proofs.Members.{in_at}
 use Rattle.answer.specs.Terms.{first_place, place_in}
 use Rattle.answer.specs.Plan.{Kept, AllKept, places, LinePlanned, Plan, Planned, Joinable, no_line}
-use Rattle.answer.specs.Columns.{Ascending, LineInOrder, LineSlots, IsSlotLine, order_of}
-use Rattle.answer.specs.declared.columns.SlotLine.{SlotLine}
+use Rattle.answer.specs.Columns.{Ascending, LineInOrder, LineSlots, IsPlannedLine, order_of}
+use Rattle.answer.specs.declared.columns.PlannedLine.{PlannedLine}
 use Rattle.answer.proofs.Listing.{begins-length, begins-at, begins-place, place_holds, still}
 use Rattle.answer.proofs.Placing.{Listed, FirstShown, OfLine, known-shown, shown-all, known-all, four-known, line-number-at, row_number, line-number, row-variable, line-variable, small, shown-first, of-line}
 
@@ -40,7 +40,7 @@ places-at place (t ∷ ts) zero h = refl
 places-at place (t ∷ ts) (suc c) h = places-at place ts c (omega arith)
 
 -- what the code has made
-pub record Made (q : Question) (p : Plan) (known shown all : List ℕ) (lines : List SlotLine) : Type 0 where
+pub record Made (q : Question) (p : Plan) (known shown all : List ℕ) (lines : List PlannedLine) : Type 0 where
   pub listed : Listed q known shown all
   pub k_is : length known ≡ p.k
   pub shown_is : length shown ≡ p.shown
@@ -52,23 +52,23 @@ pub record Made (q : Question) (p : Plan) (known shown all : List ℕ) (lines : 
   pub many : length lines ≡ length q.lines
   pub lines_are : p.lines ≡ map (λ l. l.slots) lines
   pub cols_are : p.cols ≡ map (λ l. order_of l.columns.items) lines
-  pub each : (i : ℕ) (d : SlotLine) → i < length q.lines → IsSlotLine (place_in all) (get_or q.lines i no_line).cells i (get_or lines i d)
+  pub each : (i : ℕ) (d : PlannedLine) → i < length q.lines → IsPlannedLine (place_in all) (get_or q.lines i no_line).cells i (get_or lines i d)
 
-module _ (q : Question) (a : Allowed q) (p : Plan) (known shown all : List ℕ) (lines : List SlotLine) (m : Made q p known shown all lines) where
-  no_slots : SlotLine
+module _ (q : Question) (a : Allowed q) (p : Plan) (known shown all : List ℕ) (lines : List PlannedLine) (m : Made q p known shown all lines) where
+  no_slots : PlannedLine
   no_slots = record { slots = []; columns = record { items = [] } }
 
   ordered : (i : ℕ) → i < length q.lines → LineInOrder (place_in all) (get_or q.lines i no_line).cells (get_or p.cols i [])
   ordered i h =
       let l = m.many in
       let j : i < length lines = omega arith in
-      rw (m.cols_are, get_or-map (λ (l : SlotLine). order_of l.columns.items) lines i no_slots [] j) (m.each i no_slots h).order
+      rw (m.cols_are, get_or-map (λ (l : PlannedLine). order_of l.columns.items) lines i no_slots [] j) (m.each i no_slots h).order
 
   line-slots : (i : ℕ) → i < length q.lines → LineSlots (place_in all) (get_or q.lines i no_line).cells (get_or p.cols i []) (get_or p.lines i []) i
   line-slots i h =
       let l = m.many in
       let j : i < length lines = omega arith in
-      rw (m.cols_are, m.lines_are, get_or-map (λ (l : SlotLine). order_of l.columns.items) lines i no_slots [] j, get_or-map (λ (l : SlotLine). l.slots) lines i no_slots [] j) (m.each i no_slots h).line
+      rw (m.cols_are, m.lines_are, get_or-map (λ (l : PlannedLine). order_of l.columns.items) lines i no_slots [] j, get_or-map (λ (l : PlannedLine). l.slots) lines i no_slots [] j) (m.each i no_slots h).line
 
   name : ℕ → ℕ
   name s = get_or all s 0 - 4294967296
@@ -133,7 +133,7 @@ module _ (q : Question) (a : Allowed q) (p : Plan) (known shown all : List ℕ) 
 
   -- the lines
   lines-count : length p.lines ≡ length q.lines
-  lines-count = ap length m.lines_are ∙ length-map lines (λ (l : SlotLine). l.slots) ∙ m.many
+  lines-count = ap length m.lines_are ∙ length-map lines (λ (l : PlannedLine). l.slots) ∙ m.many
 
   cells-few : (i : ℕ) → i < length q.lines → length (get_or q.lines i no_line).cells ≤ 4
   cells-few i h = (a.cells (get_or q.lines i no_line) (in_at q.lines i no_line h)).few

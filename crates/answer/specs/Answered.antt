@@ -9,6 +9,7 @@ use Rattle.question.specs.Layout.{question_in}
 use Rattle.question.specs.Tables.{tables_in}
 use Rattle.question.specs.Check.{cut_short, question_refusal}
 use Rattle.join.specs.Order.{Before, cells}
+use Rattle.join.specs.RowsOut as join
 use Rattle.join.specs.RowsOut.{Asked, PutOut}
 use Rattle.answer.specs.TableCheck.{tables_short, tables_refusal}
 
@@ -88,7 +89,7 @@ Meant question tables before out (Err e) = RefusedFor question tables before out
 -- what the join's rows are put out with: how many stand, or that there is no room for the next; without memory nothing is put out
 abbrev pub RowsOut : Asked → (before out : List ℕ) → Result ℕ Refusal → Type 0
 RowsOut q before out (Ok n) = PutOut q before out (Ok n)
-RowsOut q before out (Err (NoRoomForRow n)) = PutOut q before out (Err n)
+RowsOut q before out (Err (NoRoomForRow n)) = join.Standing q before out n × join.NoRoom q out n
 RowsOut q before out (Err NoMemory) = out ≡ before
 RowsOut q before out (Err (CutShort n)) = ⊥
 RowsOut q before out (Err (NoQuestion n)) = ⊥

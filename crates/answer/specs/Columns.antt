@@ -7,7 +7,7 @@ use Rattle.question.specs.declared.terms.Term.{Term}
 use Rattle.question.specs.declared.terms.Term.TheVariants.{Number}
 use Rattle.question.specs.Question.{Question}
 use Rattle.answer.specs.declared.columns.Column.{Column}
-use Rattle.answer.specs.declared.columns.SlotLine.{SlotLine}
+use Rattle.answer.specs.declared.columns.PlannedLine.{PlannedLine}
 use Rattle.answer.specs.Plan.{Reached, Plan, no_line}
 
 -- each of the first w columns stands once among the first w numbers
@@ -19,7 +19,7 @@ pub record Columns (w : ℕ) (cols : List ℕ) : Type 0 where
 abbrev pub order_of : List Column → List ℕ
 order_of cs = map (λ c. c.place) cs
 
-abbrev pub orders_of : List SlotLine → List (List ℕ)
+abbrev pub orders_of : List PlannedLine → List (List ℕ)
 orders_of ls = map (λ l. order_of l.columns.items) ls
 
 -- the column at a place, with its term's slot
@@ -45,7 +45,7 @@ pub record LineSlots (place : Term → ℕ) (ts : List Term) (cols line : List �
   pub zeros : (c : ℕ) → length ts ≤ c → c < 4 → slot line (c + 1) ≡ 0
 
 -- the line with the number id, kept as slots
-pub record IsSlotLine (place : Term → ℕ) (ts : List Term) (id : ℕ) (l : SlotLine) : Type 0 where
+pub record IsPlannedLine (place : Term → ℕ) (ts : List Term) (id : ℕ) (l : PlannedLine) : Type 0 where
   pub long : length l.columns.items ≡ length ts
   pub order : LineInOrder place ts (order_of l.columns.items)
   pub line : LineSlots place ts (order_of l.columns.items) l.slots id

@@ -10,7 +10,7 @@ ghost use Rattle.answer.specs.Answered.{answer_refusal, RowsOut, Meant};
 use super::copies::copy_tables;
 use super::plan::SlotPlan;
 use super::tables::Tables;
-use join::put_out;
+use join::{Join, NoRoomAfter, Row};
 use narrow::narrow;
 use question::{Question, Refusal};
 use std::alloc::Global;
@@ -34,24 +34,29 @@ fn checked<'a>(
 }
 
 // Puts out the rows that the plan gives over the copied tables, the lines narrowed first.
-fn put_rows(
-    heap: Global,
-    plan: &SlotPlan,
-    rows: Vec<[u64; 5]>,
-    out: &mut [u64],
-) -> Result<u64, Refusal>
+fn put_rows(heap: Global, plan: &SlotPlan, rows: Vec<Row>, out: &mut [u64]) -> Result<u64, Refusal>
     requires { Joinable (plan_in plan.now) }
     ensures { RowsOut (asked_by (plan_in plan.now) rows.items) out.old out.new result }
 {
     let mut lines = plan.slots(heap)?;
+    let setting = &plan.setting;
     let left = narrow(
-        heap, rows, &mut lines, plan.n, plan.shown, plan.k, &plan.env,
+        heap,
+        rows,
+        &mut lines,
+        setting.n,
+        setting.shown,
+        setting.k,
+        &setting.env,
     )?;
-    match put_out(
-        &left, &lines, plan.n, plan.shown, plan.k, &plan.env, &plan.row, out,
-    ) {
+    let join = Join {
+        rows: &left,
+        lines: &lines,
+        setting,
+    };
+    match join.put_out(&plan.row, out) {
         Ok(count) => Ok(count as u64),
-        Err(count) => Err(Refusal::NoRoomForRow(count as u64)),
+        Err(NoRoomAfter(count)) => Err(Refusal::NoRoomForRow(count as u64)),
     }
 }
 

@@ -4,10 +4,11 @@ ghost use Rattle.std.specs.List.{range_with_len};
 ghost use Rattle.question.specs.Lent.{terms_of, line_of, lines_of};
 ghost use Rattle.answer.specs.Terms.{place_in};
 ghost use Rattle.answer.specs.Plan.{places, no_line};
-ghost use Rattle.answer.specs.Columns.{column_at, InOrder, LineInOrder, LineSlots, IsSlotLine, order_of};
+ghost use Rattle.answer.specs.Columns.{column_at, InOrder, LineInOrder, LineSlots, IsPlannedLine, order_of};
 
 use super::codes::Codes;
 use arrayvec::ArrayVec;
+use join::SlotLine;
 use question::{Line, Lines, Terms};
 
 // A column, and the slot of its term.
@@ -19,8 +20,8 @@ pub(crate) struct Column {
 
 // A line as slots, that of its number first, and its columns in the order of their slots.
 #[derive(Default, Drop)]
-pub(crate) struct SlotLine {
-    pub(crate) slots: [usize; 5],
+pub(crate) struct PlannedLine {
+    pub(crate) slots: SlotLine,
     pub(crate) columns: ArrayVec<Column, 4>,
 }
 
@@ -60,7 +61,7 @@ fn in_order(codes: &Codes, terms: Terms<'_, 16>) -> ArrayVec<Column, 4>
 }
 
 // The five slots of a line: that of its number, those of its columns, and 0s.
-fn line_slots(id: usize, columns: &[Column]) -> [usize; 5]
+fn line_slots(id: usize, columns: &[Column]) -> SlotLine
     requires { length columns.now ≤ 4 }
     ensures first { slice_index result 0 ≡ id }
     ensures slots { (c : ℕ) → c < length columns.now → slice_index result (c + 1) ≡ slice_index (map (λ column. column.slot) columns.now) c }
@@ -73,13 +74,13 @@ fn line_slots(id: usize, columns: &[Column]) -> [usize; 5]
     slots
 }
 
-impl SlotLine {
+impl PlannedLine {
     // The line with the number id.
-    fn of(codes: &Codes, id: usize, line: &Line<'_, 16>) -> SlotLine
-        ensures { IsSlotLine (place_in codes.now.list.items) (line_of line.now).cells id result }
+    fn of(codes: &Codes, id: usize, line: &Line<'_, 16>) -> PlannedLine
+        ensures { IsPlannedLine (place_in codes.now.list.items) (line_of line.now).cells id result }
     {
         let columns = in_order(codes, line.terms());
-        SlotLine {
+        PlannedLine {
             slots: line_slots(id, &columns),
             columns,
         }
@@ -87,14 +88,14 @@ impl SlotLine {
 }
 
 // The lines of a question.
-pub(crate) fn slot_lines(codes: &Codes, lines: Lines<'_, 16>) -> ArrayVec<SlotLine, 4>
+pub(crate) fn planned_lines(codes: &Codes, lines: Lines<'_, 16>) -> ArrayVec<PlannedLine, 4>
     requires { length (lines_of lines) ≤ 4 }
     ensures long { length result.items ≡ length (lines_of lines.entry) }
-    ensures each { (i : ℕ) (d : _) → i < length (lines_of lines.entry) → IsSlotLine (place_in codes.now.list.items) (get_or (lines_of lines.entry) i no_line).cells i (slice_index_or result.items i d) }
+    ensures each { (i : ℕ) (d : _) → i < length (lines_of lines.entry) → IsPlannedLine (place_in codes.now.list.items) (get_or (lines_of lines.entry) i no_line).cells i (slice_index_or result.items i d) }
 {
     let mut slots = ArrayVec::new();
     for (i, line) in lines.enumerate() {
-        slots.push(SlotLine::of(codes, i, &line));
+        slots.push(PlannedLine::of(codes, i, &line));
     }
     slots
 }

@@ -7,8 +7,9 @@ ghost use Rattle.answer.specs.Columns.{order_of, orders_of};
 ghost use Rattle.answer.specs.Lent.{base_of};
 ghost use Rattle.answer.specs.Taking.{OrderWithin, FitsLine, one_number, takes, copy_row, copies_of, all_copies};
 
-use super::columns::{Column, SlotLine};
+use super::columns::{Column, PlannedLine};
 use super::tables::{Table, Tables};
+use join::Row;
 use question::{Line, Question, Term, Terms};
 use std::alloc::{AllocError, Global};
 
@@ -65,7 +66,7 @@ impl<'a> Copier<'a> {
     ghost use Rattle.answer.specs.Lent.{held_by};
 
     // The copy of a row.
-    fn copy(&self, row: &[u64]) -> [u64; 5]
+    fn copy(&self, row: &[u64]) -> Row
         requires { length row.now ≡ length (line_of self.now.line).cells }
         ensures { result ≡ copy_row self.now.id (order_of self.now.columns.now) row.now }
     {
@@ -77,7 +78,7 @@ impl<'a> Copier<'a> {
     }
 
     // Puts copies of the table's rows that the line takes behind the others.
-    fn copy_rows(&self, table: &Table<'_>, rows: &mut Vec<[u64; 5]>) -> Result<(), AllocError>
+    fn copy_rows(&self, table: &Table<'_>, rows: &mut Vec<Row>) -> Result<(), AllocError>
         ensures { OnOk result (rows.new.items ≡ rows.old.items ++ copies_of self.now.id (order_of self.now.columns.now) (line_of self.now.line).cells (held_by table.now)) }
     {
         for row in table.rows() {
@@ -89,7 +90,7 @@ impl<'a> Copier<'a> {
     }
 
     // Puts copies of the line's table behind the other rows.
-    fn copy_line(&self, tables: Tables<'_>, rows: &mut Vec<[u64; 5]>) -> Result<(), AllocError>
+    fn copy_line(&self, tables: Tables<'_>, rows: &mut Vec<Row>) -> Result<(), AllocError>
         ensures { OnOk result (rows.new.items ≡ rows.old.items ++ copies_of self.now.id (order_of self.now.columns.now) (line_of self.now.line).cells (base_of tables.entry (line_of self.now.line).table)) }
     {
         let number = self.line.table();
@@ -106,9 +107,9 @@ impl<'a> Copier<'a> {
 pub(crate) fn copy_tables(
     heap: Global,
     question: &Question<'_>,
-    lines: &[SlotLine],
+    lines: &[PlannedLine],
     tables: Tables<'_>,
-) -> Result<Vec<[u64; 5]>, AllocError>
+) -> Result<Vec<Row>, AllocError>
     requires orders { (i : ℕ) (d : _) → i < length (question_of question.now).lines → FitsLine (slice_index_or (question_of question.now).lines i no_line).cells (slice_index_or lines.now i d).columns.items }
     requires many { length lines.now ≡ length (question_of question.now).lines }
     ensures { IfOk result (λ rows. rows.items ≡ all_copies (base_of tables.entry) 0 (question_of question.now).lines (orders_of lines.now)) }

@@ -7,19 +7,17 @@ ghost use Rattle.answer.specs.Taking.{FitsLine};
 ghost use Rattle.answer.specs.Planning.{plan_in};
 
 use super::codes::{Codes, Kind};
-use super::columns::{SlotLine, row_slots, slot_lines};
+use super::columns::{PlannedLine, planned_lines, row_slots};
 use arrayvec::ArrayVec;
+use join::{Setting, SlotLine};
 use question::Question;
 use std::alloc::{AllocError, Global};
 
-// The slots below k have their values in env, those below `shown` are in the row, and there are n.
+// A question as slots: how many there are and what is known of them, its lines and its row.
 #[derive(Drop)]
 pub(crate) struct SlotPlan {
-    pub(crate) k: usize,
-    pub(crate) shown: usize,
-    pub(crate) n: usize,
-    pub(crate) env: [u64; 24],
-    pub(crate) lines: ArrayVec<SlotLine, 4>,
+    pub(crate) setting: Setting,
+    pub(crate) lines: ArrayVec<PlannedLine, 4>,
     pub(crate) row: ArrayVec<usize, 4>,
 }
 
@@ -42,17 +40,16 @@ impl SlotPlan {
         codes.put_terms(row, Kind::Variables);
         let shown = codes.count();
         codes.put_lines(lines, Kind::Variables);
+        let n = codes.count();
+        let setting = Setting { n, shown, k, env };
         SlotPlan {
-            k,
-            shown,
-            n: codes.count(),
-            env,
-            lines: slot_lines(&codes, lines),
+            setting,
+            lines: planned_lines(&codes, lines),
             row: row_slots(&codes, row),
         }
     }
     // The lines as slots alone, for the join.
-    pub(crate) fn slots(&self, heap: Global) -> Result<Vec<[usize; 5]>, AllocError>
+    pub(crate) fn slots(&self, heap: Global) -> Result<Vec<SlotLine>, AllocError>
         ensures { IfOk result (λ lines. lines.items ≡ (plan_in self.now).lines) }
     {
         let mut lines = Vec::with_capacity(heap, self.lines.len())?;

@@ -1,10 +1,10 @@
 use Rattle.std.proofs.Common.{◌≡◌, ℕ, ◌<◌, ◌≤◌, drop, length, get_or}
 use Rattle.question.specs.Lent.{lines_of}
-use Rattle.answer.specs.declared.columns.SlotLine.{SlotLine}
+use Rattle.answer.specs.declared.columns.PlannedLine.{PlannedLine}
 use Rattle.answer.specs.Terms.{place_in}
 use Rattle.answer.specs.Plan.{no_line}
-use Rattle.answer.specs.Columns.{IsSlotLine}
-use Rattle.answer.proofs.columns.slot_lines.Given as goal
+use Rattle.answer.specs.Columns.{IsPlannedLine}
+use Rattle.answer.proofs.columns.planned_lines.Given as goal
 
 abbrev pub invariant-loop-i : goal.invariant-loop-i
 invariant-loop-i l =
@@ -12,4 +12,4 @@ invariant-loop-i l =
     × (l.i-iterator.count ≤ length (lines_of l.fn.lines))
     × (lines_of l.i-iterator.iter ≡ drop l.i-iterator.count (lines_of l.fn.lines))
     × (length l.slots.items ≡ l.i-iterator.count)
-    × ((j : ℕ) (d : SlotLine) → j < l.i-iterator.count → IsSlotLine (place_in l.codes.list.items) (get_or (lines_of l.fn.lines) j no_line).cells j (get_or l.slots.items j d))
+    × ((j : ℕ) (d : PlannedLine) → j < l.i-iterator.count → IsPlannedLine (place_in l.codes.list.items) (get_or (lines_of l.fn.lines) j no_line).cells j (get_or l.slots.items j d))

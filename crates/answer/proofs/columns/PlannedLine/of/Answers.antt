@@ -3,7 +3,7 @@ use Rattle.question.proofs.Chunks.{line_few}
 use Rattle.answer.specs.Terms.{place_in}
 use Rattle.answer.specs.Columns.{InOrder}
 use Rattle.answer.proofs.Ordered.{line_order, line_slots}
-use Rattle.answer.proofs.columns.SlotLine.of.Goals as goal
+use Rattle.answer.proofs.columns.PlannedLine.of.Goals as goal
 
 pub in_order-columns-requires : goal.in_order-columns-requires
 in_order-columns-requires c = rw c.terms.ensures (line_few 16 c.args.line.now.numbers.now c.args.line.now.fits)

@@ -2,6 +2,7 @@
 ghost use Rattle.std.specs.Prelude.{◌≡◌, Some};
 ghost use Rattle.question.specs.declared.refusals.Refusal.TheVariants.{NoMemory};
 ghost use Rattle.question.specs.Refusals.{number, place, refusal_line};
+ghost use Rattle.question.specs.declared.refusals.Refusal.TheVariants.{NoMemory};
 
 use std::alloc::AllocError;
 use std::fmt;
@@ -82,5 +83,14 @@ impl fmt::Display for Refusal {
         let number = self.number();
         let place = self.place();
         write!(f, "refused {number} at {place}")
+    }
+}
+
+// A call that runs out of memory is turned away.
+impl From<AllocError> for Refusal {
+    ghost from_gives = { λ _ e. e ≡ NoMemory };
+
+    fn from(_error: AllocError) -> Refusal {
+        Self::NoMemory
     }
 }

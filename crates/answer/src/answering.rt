@@ -40,15 +40,7 @@ fn put_rows(heap: Global, plan: &SlotPlan, rows: Vec<Row>, out: &mut [u64]) -> R
 {
     let mut lines = plan.slots(heap)?;
     let setting = &plan.setting;
-    let left = narrow(
-        heap,
-        rows,
-        &mut lines,
-        setting.n,
-        setting.shown,
-        setting.k,
-        &setting.env,
-    )?;
+    let left = narrow(heap, rows, &mut lines, setting)?;
     let join = Join {
         rows: &left,
         lines: &lines,

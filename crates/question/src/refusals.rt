@@ -85,12 +85,3 @@ impl fmt::Display for Refusal {
         write!(f, "refused {number} at {place}")
     }
 }
-
-// A call that runs out of memory is turned away.
-impl From<AllocError> for Refusal {
-    ghost from_gives = { λ _ e. e ≡ NoMemory };
-
-    fn from(_error: AllocError) -> Refusal {
-        Self::NoMemory
-    }
-}

@@ -11,7 +11,7 @@ use Rattle.question.specs.Layout.{question_in}
 use Rattle.question.specs.Check.{question_refusal}
 use Rattle.question.specs.Reports.{questions_in, reports_in}
 use Rattle.question.proofs.Accepted.{allowed}
-use Rattle.question.proofs.Chunks.{all-chunks}
+use Rattle.question.proofs.Chunks.{all-chunks, length-chunks}
 use Rattle.reports.specs.Reports.{all_sound}
 use Rattle.reports.proofs.Lent.{none_from}
 use Rattle.reports.specs.Check.{same_widths, is_question, report_part, report_parts, part_good, parts_fault, agrees_before, report_good, report_fault, reports_short}
@@ -47,10 +47,6 @@ pub all-parts : (n : ℕ) (reports rest numbers : List ℕ) (parts : List (List 
 unfolding report_parts
 all-parts n reports rest numbers parts e h f p =
     p ∙ ap (λ (xs : List ℕ). first_chunks 50 (length xs / 50) xs) f ∙ all-chunks 50 n rest (omega arith) h ∙ ap (λ (xs : List ℕ). first_chunks 50 (get_or xs 0 0) (drop 1 xs)) (sym e)
-
-length-chunks : (k n : ℕ) (xs : List ℕ) → length (first_chunks k n xs) ≡ n
-length-chunks k zero xs = refl
-length-chunks k (suc n) xs = ap suc (length-chunks k n (drop k xs))
 
 pub length-parts : (reports : List ℕ) → length (report_parts reports) ≡ get_or reports 0 0
 unfolding report_parts

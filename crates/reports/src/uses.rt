@@ -38,8 +38,7 @@ impl Uses {
     pub fn lines(&self) -> Lines<'_, 16>
         ensures { lines_of result ≡ lines_kept self.now }
     {
-        let lines = self.lines.as_slice();
-        Lines::first_of(lines.as_flattened(), lines.len())
+        Lines::over(self.lines.as_slice())
     }
 
     // Puts one more where it belongs, unless it is one of them.

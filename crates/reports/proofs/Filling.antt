@@ -1,9 +1,9 @@
 -- Lines made of terms that are put as others: what codes stand for, one term more, and the whole line, which fits.
-use Rattle.std.proofs.Common.{◌≡◌, ℕ, zero, suc, ◌+◌, ◌-◌, ◌*◌, ◌<◌, ◌≤◌, true, List, [], ◌∷◌, ◌++◌, length, get_or, take, drop, set, replicate, sym, refl, ap, ◌∙◌, subst, arith, le-ltb, lt-ltb}
+use Rattle.std.proofs.Common.{◌≡◌, ℕ, ◌+◌, ◌-◌, ◌*◌, ◌<◌, ◌≤◌, true, List, [], ◌∷◌, ◌++◌, length, get_or, take, drop, set, replicate, sym, refl, ap, ◌∙◌, subst, arith}
 use Rattle.std.proofs.lemmas.List.{append_assoc, take_all, take_at, take_more, drop_more, drop-replicate, length-append, length-take-le, get_or_default}
 use Rattle.question.specs.declared.terms.Term.{Term}
 use Rattle.question.specs.declared.terms.Term.TheVariants.{Number, Variable}
-use Rattle.question.specs.Question.{Line, In}
+use Rattle.question.specs.Question.{Line}
 use Rattle.question.specs.Sound.{TermWithin, TermsWithin}
 use Rattle.question.specs.Layout.{terms_out, line_in, line_out, line_fits, lines_in}
 use Rattle.question.specs.Check.{WritesLine, WritesLines}

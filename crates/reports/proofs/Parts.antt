@@ -1,10 +1,10 @@
 -- Lent reports in parts of fifty numbers: when they are cut short, and the least part at fault.
-use Rattle.std.proofs.Common.{◌≡◌, ℕ, zero, suc, ◌+◌, ◌-◌, ◌*◌, ◌/◌, ◌<◌, ◌≤◌, true, false, cond, List, [], ◌∷◌, map, ◌⊎◌, length, get_or, take, drop, Some, None, sym, refl, ap, ◌∙◌, ap₂, inl, inr, arith}
+use Rattle.std.proofs.Common.{◌≡◌, ℕ, zero, suc, ◌+◌, ◌-◌, ◌*◌, ◌/◌, ◌<◌, ◌≤◌, true, false, cond, List, [], ◌∷◌, map, ◌⊎◌, length, get_or, take, drop, Some, None, sym, refl, ap, ◌∙◌, inl, inr, arith}
 use Rattle.std.specs.List.{list_all}
 use Rattle.std.specs.Simd.{first_chunks}
 use Rattle.std.proofs.lemmas.Bool.Decides.{nat_tests}
 use Rattle.std.proofs.lemmas.Bool.{and_parts, and_from}
-use Rattle.std.proofs.lemmas.List.{drop-drop, drop_more}
+use Rattle.std.proofs.lemmas.List.{drop-drop, drop_more, length-drop}
 use Rattle.question.specs.declared.refusals.Refusal.TheVariants.{CutShort}
 use Rattle.question.specs.Question.{Line, Question}
 use Rattle.question.specs.Layout.{question_in}
@@ -125,3 +125,26 @@ parts-sound [] e = refl
 parts-sound (p ∷ ps) e =
     let a = and_parts (is_question p) (list_all is_question ps) e in
     and_from _ _ (allowed p (none_from (question_refusal p) a.0)).is_sound (parts-sound ps a.1)
+
+-- the first reports, where each is a question
+chunks-checked : (n : ℕ) (xs : List ℕ) → ((i : ℕ) → i < n → question_refusal (take 50 (drop (50 * i) xs)) ≡ None) → list_all is_question (first_chunks 50 n xs) ≡ true
+chunks-checked zero xs f = refl
+chunks-checked (suc n) xs f =
+    let a : is_question (take 50 xs) ≡ true = rw (f 0 (omega arith)) refl in
+    and_from _ _ a (chunks-checked n (drop 50 xs) (λ i h. let d : 50 + 50 * i ≡ 50 * suc i = omega arith in rw (drop-drop (50 * i) 50 xs, d) (f (suc i) (omega arith))))
+
+pub record Lent (n : ℕ) (numbers : List ℕ) (parts : List (List ℕ)) : Type 0 where
+  pub checked : list_all is_question parts ≡ true
+  pub count : length parts ≡ n
+  pub are : map question_in parts ≡ questions_in n (drop 1 numbers)
+
+pub chunks_lent : (n : ℕ) (numbers xs : List ℕ) (parts : List (List ℕ)) → ((i : ℕ) → i < n → question_refusal (take 50 (drop (1 + 50 * i) numbers)) ≡ None) → 1 + 50 * n ≤ length numbers → xs ≡ take (50 * n) (drop 1 numbers)
+    → parts ≡ first_chunks 50 (length xs / 50) xs → Lent n numbers parts
+chunks_lent n numbers xs parts f h e p =
+    let l : 50 * n ≤ length (drop 1 numbers) = omega (arith, length-drop 1 numbers) in
+    let is : parts ≡ first_chunks 50 n (drop 1 numbers) = p ∙ ap (λ (ys : List ℕ). first_chunks 50 (length ys / 50) ys) e ∙ all-chunks 50 n (drop 1 numbers) (omega arith) l in
+    record {
+      checked = rw is (chunks-checked n (drop 1 numbers) (λ i b. rw (drop-drop (50 * i) 1 numbers) (f i b)));
+      count = ap length is ∙ length-chunks 50 n (drop 1 numbers);
+      are = ap (map question_in) is ∙ questions-chunks n (drop 1 numbers);
+    }

@@ -47,7 +47,10 @@ impl Uses {
         requires written { line_out (line_in line) ≡ line }
         ensures { Keeps result self.new (insert_line (line_in line) (lines_kept self.old)) }
     {
-        let search = self.lines.as_slice().binary_search_by(|other| order(other, &line));
+        let search = self
+            .lines
+            .as_slice()
+            .binary_search_by(|other| order(other, &line));
         match search {
             Ok(_) => Ok(()),
             Err(place) => self

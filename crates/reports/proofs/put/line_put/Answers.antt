@@ -1,4 +1,4 @@
-use Rattle.std.proofs.Common.{rules, ◌≡◌, ◌+◌, ◌*◌, ◌≤◌, [], ◌∷◌, length, take, drop, replicate, refl, sym, ap, ◌∙◌, arith}
+use Rattle.std.proofs.Common.{rules, ◌≡◌, ◌+◌, [], ◌∷◌, length, drop, replicate, refl, sym, ap, ◌∙◌, arith}
 use Rattle.question.specs.declared.terms.Term.{Term}
 use Rattle.question.specs.Layout.{terms_out}
 use Rattle.question.specs.Lent.{terms_of}

@@ -1,4 +1,4 @@
-use Rattle.std.proofs.Common.{rules, ◌≡◌, ◌<◌, List, map, length, sym, ap, ◌∙◌, subst, arith}
+use Rattle.std.proofs.Common.{◌≡◌, ◌<◌, List, map, length, sym, ap, ◌∙◌, subst}
 use Rattle.std.proofs.lemmas.Result.{err_from_is_err_and}
 use Rattle.question.specs.Question.{Line}
 use Rattle.question.specs.Layout.{line_in, line_out}
@@ -10,7 +10,7 @@ use Rattle.reports.specs.Uses.{lines_kept, Keeps, insert_all}
 use Rattle.reports.specs.Made.{own_part}
 use Rattle.reports.proofs.Filling.{use_fits, line-back}
 use Rattle.reports.proofs.Gathering.{codes-within, keep_end, keep_line, keep_past, keep-on, keep-over, keep-none}
-use Rattle.reports.proofs.wide.Asked.+keep_readings.Goals as goal
+use Rattle.reports.proofs.wide.Readings.+keep_uses.Goals as goal
 
 pub keep-requires-clause-fits : goal.keep-requires-clause-fits
 keep-requires-clause-fits t c =
@@ -39,17 +39,17 @@ loop-to-preserved-in_default-put_line t c =
     let e = keep_past (use_of a.number (question_of a.report)) go (lines_of c.loop-to.to-iterator) (lines_of c.next-in-loop-to.new.self) (lines_kept c.loop-to.uses) (line_of c.in-Some.from) (line_of c.in-Some-to.to) s c.in-Some-to.ensures.steps (sym c.in_default-put_line.ensures) in
     (tt, tt, sym e ∙ c.loop-to.invariant.2)
 
-pub returns-in_err-keep_readings : goal.returns-in_err-keep_readings
-returns-in_err-keep_readings t c =
+pub returns-in_err-keep_uses : goal.returns-in_err-keep_uses
+returns-in_err-keep_uses t c =
     let a = c.args.self.now in
     let s = own_part c.args.reading.now in
     let q = (question_of a.question).lines in
     let p = err_from_is_err_and c.from_residual.result c.from_residual.ensures.1 in
     let go = all_readings (lines_of c.next.new.self) q in
     let f = use_of a.number (question_of a.report) in
-    let h = keep-over f go (lines_of c.loop-to.to-iterator) (lines_of c.next-in-loop-to.new.self) (lines_kept c.loop-to.uses) (line_of c.in-Some.from) (line_of c.in-Some-to.to) s (own_part c.in-Some-put_line.more) c.in-Some-to.ensures.steps (sym c.in-Some-put_line.ensures) c.in_err-keep_readings.ensures.1 in
+    let h = keep-over f go (lines_of c.loop-to.to-iterator) (lines_of c.next-in-loop-to.new.self) (lines_kept c.loop-to.uses) (line_of c.in-Some.from) (line_of c.in-Some-to.to) s (own_part c.in-Some-put_line.more) c.in-Some-to.ensures.steps (sym c.in-Some-put_line.ensures) c.in_err-keep_uses.ensures.1 in
     let e = c.loop-to.invariant.2 ∙ keep_line f (lines_of c.args.lines) q (lines_kept c.args.uses.now) (lines_of c.next.new.self) (line_of c.in-Some.from) s c.in-Some.ensures.steps in
-    rw (p.1, p.2) (c.in_err-keep_readings.ensures.0, subst (λ (ls : List Line). 32 < length ls) e h)
+    rw (p.1, p.2) (c.in_err-keep_uses.ensures.0, subst (λ (ls : List Line). 32 < length ls) e h)
 
 pub loop-to-preserved : goal.loop-to-preserved
 loop-to-preserved t c =
@@ -59,7 +59,7 @@ loop-to-preserved t c =
     let go = all_readings (lines_of c.next.new.self) q in
     let f = use_of a.number (question_of a.report) in
     let e = keep-on f go (lines_of c.loop-to.to-iterator) (lines_of c.next-in-loop-to.new.self) (lines_kept c.loop-to.uses) (line_of c.in-Some.from) (line_of c.in-Some-to.to) s (own_part c.in-Some-put_line.more) c.in-Some-to.ensures.steps (sym c.in-Some-put_line.ensures) in
-    (tt, tt, ap (λ (ks : List Line). insert_all (map f (all_lines go (lines_of c.next-in-loop-to.new.self) (line_of c.in-Some.from) s)) ks) c.in_ok-keep_readings.ensures ∙ sym e ∙ c.loop-to.invariant.2)
+    (tt, tt, ap (λ (ks : List Line). insert_all (map f (all_lines go (lines_of c.next-in-loop-to.new.self) (line_of c.in-Some.from) s)) ks) c.in_ok-keep_uses.ensures ∙ sym e ∙ c.loop-to.invariant.2)
 
 pub returns : goal.returns
 returns t c =

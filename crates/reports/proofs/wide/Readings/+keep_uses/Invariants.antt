@@ -3,10 +3,10 @@ use Rattle.question.specs.Lent.{line_of, lines_of, question_of}
 use Rattle.reports.specs.Widest.{use_of, all_lines, all_readings}
 use Rattle.reports.specs.Uses.{lines_kept, insert_all}
 use Rattle.reports.specs.Made.{own_part}
-use Rattle.reports.proofs.wide.Asked.+keep_readings.Given as goal
+use Rattle.reports.proofs.wide.Readings.+keep_uses.Given as goal
 
-abbrev pub decreases-keep_readings : goal.decreases-keep_readings
-decreases-keep_readings l = length (lines_of l.lines)
+abbrev pub decreases-keep_uses : goal.decreases-keep_uses
+decreases-keep_uses l = length (lines_of l.lines)
 
 abbrev pub invariant-loop-to : goal.invariant-loop-to
 invariant-loop-to l =

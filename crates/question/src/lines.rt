@@ -1,5 +1,5 @@
 // A line of a question, and lines one after another.
-ghost use Rattle.std.specs.Prelude.{◌≡◌, ◌*◌, ◌≤◌, true, ◌∷◌, ◌++◌, length, drop};
+ghost use Rattle.std.specs.Prelude.{◌≡◌, ◌*◌, ◌≤◌, true, ◌∷◌, ◌++◌, map, length, drop};
 ghost use Rattle.std.specs.List.{list_all};
 ghost use Rattle.std.specs.Iterator.{YieldsFirstBy, item_count};
 ghost use Rattle.question.specs.Question.{all_at};
@@ -46,6 +46,7 @@ impl<'a, const LIMIT: usize> Line<'a, LIMIT> {
     pub fn numbers(&self) -> &'a [u64; 10]
         ensures line { line_in result.now ≡ line_of self.now }
         ensures fits { line_fits LIMIT result.now ≡ true }
+        ensures ten { length result.now ≡ 10 }
     {
         self.numbers
     }
@@ -96,6 +97,15 @@ impl<'a, const LIMIT: usize> Lines<'a, LIMIT> {
     {
         let (lines, _) = numbers[..10 * n].as_chunks();
         Lines { left: lines }
+    }
+
+    // The lines that lie in ten numbers each.
+    pub fn over(tens: &'a [[u64; 10]]) -> Lines<'a, LIMIT>
+        requires fit { list_all (ten_fit LIMIT) tens.now ≡ true }
+        requires limit { LIMIT ≤ 256 }
+        ensures { lines_of result ≡ map line_in tens.now }
+    {
+        Lines { left: tens }
     }
 
     // How many there are.

@@ -1,5 +1,5 @@
 -- Terms and lines in lent numbers, cut into a list for each: what the layout says of the numbers holds of these lists.
-use Rattle.std.proofs.Common.{◌≡◌, ℕ, zero, suc, ◌*◌, ◌/◌, ◌<◌, ◌≤◌, true, ◌&&◌, List, [], ◌∷◌, ◌++◌, map, length, get_or, take, drop, refl, ap, eq-eqb, ◌∙◌, ◌-◌, arith}
+use Rattle.std.proofs.Common.{◌≡◌, ℕ, zero, suc, ◌*◌, ◌/◌, ◌<◌, ◌≤◌, true, Bool, ◌&&◌, List, [], ◌∷◌, ◌++◌, map, length, get_or, take, drop, refl, ap, eq-eqb, ◌∙◌, ◌-◌, arith}
 use Rattle.std.specs.List.{list_all, flat_map}
 use Rattle.std.specs.Simd.{first_chunks}
 use Rattle.std.proofs.lemmas.Bool.{and_parts, and_from, eqb-true}
@@ -93,3 +93,9 @@ lines-long limit (p ∷ ps) f =
     let e = lines-long limit ps a.1 in
     let few = line_few limit p (and_parts _ _ a.0).1 in
     length-append (line_out (line_in p)) (lines_out (map line_in ps)) ∙ omega (arith, length-line_out (line_in p) few, e)
+
+-- a front of what fits fits
+pub all-front : {A : Type 0} (f : A → Bool) (n : ℕ) (xs : List A) → list_all f xs ≡ true → list_all f (take n xs) ≡ true
+all-front f zero xs e = refl
+all-front f (suc n) [] e = refl
+all-front f (suc n) (x ∷ xs) e = let p = and_parts _ _ e in and_from _ _ p.0 (all-front f n xs p.1)

@@ -1,5 +1,5 @@
 // A line of a question, and lines one after another.
-ghost use Rattle.std.specs.Prelude.{◌≡◌, ◌*◌, ◌≤◌, true, ◌∷◌, ◌++◌, map, length, drop};
+ghost use Rattle.std.specs.Prelude.{◌≡◌, ◌*◌, ◌≤◌, true, ◌∷◌, ◌++◌, map, length, take, drop};
 ghost use Rattle.std.specs.List.{list_all};
 ghost use Rattle.std.specs.Iterator.{YieldsFirstBy, item_count};
 ghost use Rattle.question.specs.Question.{all_at};
@@ -113,6 +113,16 @@ impl<'a, const LIMIT: usize> Lines<'a, LIMIT> {
         ensures { result ≡ length (lines_of self.now) }
     {
         self.left.len()
+    }
+
+    // The first n of them, or all where there are fewer.
+    pub fn front(&self, n: usize) -> Lines<'a, LIMIT>
+        ensures { lines_of result ≡ take n (lines_of self.now) }
+    {
+        let lines = self.left;
+        Lines {
+            left: &lines[..n.min(lines.len())],
+        }
     }
 
     // Writes them to the front of out.

@@ -1,7 +1,0 @@
-use Rattle.std.proofs.Common.{◌≡◌, drop}
-use Rattle.question.specs.Layout.{line_in, lines_in}
-use Rattle.containment.specs.OwnNumbers.{one_table, has_same}
-use Rattle.containment.proofs.shown.has_table.Given as goal
-
-abbrev pub invariant-loop-i : goal.invariant-loop-i
-invariant-loop-i l = has_same one_table (drop l.i (lines_in l.n l.lines)) (line_in l.line) ≡ has_same one_table (lines_in l.n l.lines) (line_in l.line)

@@ -4,6 +4,7 @@ use borrow.Author.Tests.{clash}
 use Rattle.std.specs.Option.{option_or, option_map}
 use Rattle.std.specs.List.{list_all}
 use Rattle.std.proofs.lemmas.Bool.{and_parts, and_from}
+use Rattle.std.proofs.lemmas.List.Folds.{list_all-append}
 use Rattle.std.proofs.lemmas.List.{append_assoc, append-nil, map-append, map-id}
 use Rattle.minimization.specs.Choices.{choices, first_right, first_after, by_size}
 use Rattle.minimization.proofs.Choosing.{first_join}
@@ -52,10 +53,6 @@ none_or : {B C : Type 0} (g : B → C) (o : Option B) (rest whole : Option C) �
 none_or g None rest whole t e = e
 none_or g (Some b) rest whole t e = absurd (clash (sym t))
 
-all_more : {A : Type 0} (t : A → Bool) (p : List A) (w : A) → list_all t p ≡ true → t w ≡ true → list_all t (p ++ w ∷ []) ≡ true
-all_more t [] w e h = and_from _ _ h refl
-all_more t (x ∷ p) w e h = let a = and_parts _ _ e in and_from _ _ a.0 (all_more t p w a.1 h)
-
 -- A loop over the lines that come next, behind p which are taken, at n more to take: what is found in it, or else in what comes after it, is the whole. The test may be asked of all these lines.
 pub record Still {A : Type 0} (t : A → Bool) (f : List A → Bool) (p : List A) (n : ℕ) (ws : List A) (rest whole : Option (List A)) : Type 0 where
   pub is : option_or (first_after f p n ws) rest ≡ whole
@@ -86,7 +83,7 @@ module _ {A : Type 0} (t : A → Bool) (f : List A → Bool) where
             ∙ ap (λ (o : Option (List A)). option_or o rest) (sym (after_more f p n w ws))
             ∙ ap (λ (xs : List A). left p (suc n) xs rest) (sym b)
             ∙ s.is;
-        chosen = ap (list_all t) e ∙ all_more t p w s.chosen a.0;
+        chosen = ap (list_all t) e ∙ list_all-append t p (w ∷ []) ∙ and_from _ _ s.chosen (and_from _ _ a.0 refl);
         coming = a.1;
       }
 

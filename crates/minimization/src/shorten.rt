@@ -7,7 +7,7 @@ ghost use Rattle.minimization.specs.Answer.{least_refusal, least_says, least_lea
 
 use super::choose::Candidates;
 use super::test::Test;
-//use containment::reads_into;
+use containment::reads_into;
 use question::{Lines, Question, Refusal};
 
 // Whether some lines of a question say the same as all of them.
@@ -22,7 +22,7 @@ impl<'a> Test for SaysSame<'a> {
     ghost takes = { λ _ _. true };
 
     fn passes(&self, lines: &Lines<'_, 16>) -> bool {
-        lines.count_left() == 0
+        reads_into(&self.question, lines)
     }
 }
 

@@ -1,4 +1,4 @@
-use Rattle.std.proofs.Common.{rules, ◌∙◌, ap}
+use Rattle.std.proofs.Common.{◌∙◌, ap}
 use Rattle.question.specs.Lent.{lines_of}
 use Rattle.minimization.specs.Choices.{first_after}
 use Rattle.minimization.proofs.After.{after_none}

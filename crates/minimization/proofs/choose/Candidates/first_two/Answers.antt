@@ -2,7 +2,7 @@ use Rattle.std.proofs.Common.{refl, sym, ap, ◌∙◌}
 use Rattle.std.specs.Option.{option_map}
 use Rattle.question.specs.Lent.{line_of}
 use Rattle.minimization.specs.Meant.{meant}
-use Rattle.minimization.proofs.After.{begin, enter, over, leave, found, past, none-found}
+use Rattle.minimization.proofs.After.{begin, over, found, past, none-found}
 use Rattle.minimization.proofs.choose.Candidates.first_two.Goals as goal
 
 pub found-init : goal.found-init

@@ -2,7 +2,7 @@ use Rattle.std.proofs.Common.{◌≡◌, None, length}
 use Rattle.question.specs.Lent.{lines_of}
 use Rattle.minimization.specs.Choices.{choices, first_right}
 use Rattle.minimization.specs.Meant.{meant}
-use Rattle.minimization.proofs.After.{Still, left}
+use Rattle.minimization.proofs.After.{Still}
 use Rattle.minimization.proofs.choose.Candidates.first_two.Given as goal
 
 abbrev pub invariant-found : goal.invariant-found

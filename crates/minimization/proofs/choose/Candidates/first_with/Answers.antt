@@ -3,7 +3,6 @@ use Rattle.question.specs.Lent.{line_of}
 use Rattle.minimization.proofs.After.{passed, failed, over}
 use Rattle.minimization.proofs.choose.Candidates.first_with.Goals as goal
 
-
 pub returns-then-passes : goal.returns-then-passes
 returns-then-passes g c = passed _ _ _ _ _ (line_of c.in-Some.line) _ _ _ c.in-Some.ensures.steps c.with-more.ensures.lines (c.if-passes.ensures ∙ ap (g.T.Test.decides c.args.self.now.test) c.lines.ensures.lines) c.loop-line.invariant.2
 

@@ -1,4 +1,4 @@
-use Rattle.std.proofs.Common.{◌≡◌, None}
+use Rattle.std.proofs.Common.{None}
 use Rattle.question.specs.Lent.{lines_of}
 use Rattle.minimization.specs.Choices.{first_after}
 use Rattle.minimization.specs.Meant.{meant}

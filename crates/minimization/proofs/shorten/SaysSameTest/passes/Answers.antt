@@ -1,0 +1,6 @@
+use Rattle.minimization.specs.Least.{says_same}
+use Rattle.minimization.proofs.shorten.SaysSameTest.passes.Goals as goal
+
+pub returns : goal.returns
+unfolding says_same
+returns c = c.reads_into.ensures

@@ -2,9 +2,6 @@
 use Rattle.std.proofs.Common.{◌≡◌, ℕ, suc, ◌+◌, ◌-◌, ◌<◌, ◌≤◌, Bool, true, false, cond, List, [], ◌∷◌, ◌++◌, map, is_some, Some, None, Option, sym, refl, ap, ◌∙◌, ap₂, arith}
 use borrow.Author.Tests.{clash}
 use Rattle.std.specs.Option.{option_or, option_map}
-use Rattle.std.specs.List.{list_all}
-use Rattle.std.proofs.lemmas.Bool.{and_parts, and_from}
-use Rattle.std.proofs.lemmas.List.Folds.{list_all-append}
 use Rattle.std.proofs.lemmas.List.{append_assoc, append-nil, map-append, map-id}
 use Rattle.minimization.specs.Choices.{choices, first_right, first_after, by_size}
 use Rattle.minimization.proofs.Choosing.{first_join}
@@ -37,7 +34,7 @@ after_end : {A : Type 0} (f : List A → Bool) (p : List A) (n : ℕ) → first_
 unfolding first_after choices first_right
 after_end f p n = refl
 
-or-none : {B : Type 0} (o : Option B) → option_or o None ≡ o
+pub or-none : {B : Type 0} (o : Option B) → option_or o None ≡ o
 or-none None = refl
 or-none (Some c) = refl
 
@@ -53,72 +50,46 @@ none_or : {B C : Type 0} (g : B → C) (o : Option B) (rest whole : Option C) �
 none_or g None rest whole t e = e
 none_or g (Some b) rest whole t e = absurd (clash (sym t))
 
--- A loop over the lines that come next, behind p which are taken, at n more to take: what is found in it, or else in what comes after it, is the whole. The test may be asked of all these lines.
-pub record Still {A : Type 0} (t : A → Bool) (f : List A → Bool) (p : List A) (n : ℕ) (ws : List A) (rest whole : Option (List A)) : Type 0 where
-  pub is : option_or (first_after f p n ws) rest ≡ whole
-  pub chosen : list_all t p ≡ true
-  pub coming : list_all t ws ≡ true
-
-module _ {A : Type 0} (t : A → Bool) (f : List A → Bool) where
-  -- what is left of a loop where w is past, and what comes after it
+-- A loop over the lines that come next, behind p which are taken, at n more to take: what is found in it, or else in what comes after it.
+module _ {A : Type 0} (f : List A → Bool) where
   abbrev pub left : List A → ℕ → List A → Option (List A) → Option (List A)
   left p n ws rest = option_or (first_after f p n ws) rest
 
   -- the first loop begins
-  pub begin : (p : List A) (n : ℕ) (ws : List A) → p ≡ [] → list_all t ws ≡ true → Still t f p n ws None (first_right f (choices n ws))
-  begin p n ws e a = record {
-    is = or-none (first_after f p n ws) ∙ ap (λ (q : List A). first_after f q n ws) e ∙ after_none f n ws;
-    chosen = rw e refl;
-    coming = a;
-  }
+  pub begin : (p : List A) (n : ℕ) (ws : List A) → p ≡ [] → left p n ws None ≡ first_right f (choices n ws)
+  begin p n ws e = or-none (first_after f p n ws) ∙ ap (λ (q : List A). first_after f q n ws) e ∙ after_none f n ws
 
   -- the next line is taken, and the next loop begins behind it
-  pub enter : (p q : List A) (n : ℕ) (before : List A) (w : A) (ws : List A) (rest whole : Option (List A)) → before ≡ w ∷ ws → q ≡ p ++ w ∷ [] → Still t f p (suc n) before rest whole
-      → Still t f q n ws (left p (suc n) ws rest) whole
-  enter p q n before w ws rest whole b e s =
-      let a = and_parts (t w) (list_all t ws) (ap (list_all t) (sym b) ∙ s.coming) in
-      record {
-        is = ap (λ (r : List A). left r n ws (left p (suc n) ws rest)) e
-            ∙ sym (or-or (first_after f (p ++ w ∷ []) n ws) (first_after f p (suc n) ws) rest)
-            ∙ ap (λ (o : Option (List A)). option_or o rest) (sym (after_more f p n w ws))
-            ∙ ap (λ (xs : List A). left p (suc n) xs rest) (sym b)
-            ∙ s.is;
-        chosen = ap (list_all t) e ∙ list_all-append t p (w ∷ []) ∙ and_from _ _ s.chosen (and_from _ _ a.0 refl);
-        coming = a.1;
-      }
-
-  -- what is left where the next line is past
-  behind : (p : List A) (n : ℕ) (before : List A) (w : A) (ws : List A) (rest whole : Option (List A)) → before ≡ w ∷ ws → Still t f p n before rest whole → left p n ws rest ≡ whole
-      → Still t f p n ws rest whole
-  behind p n before w ws rest whole b s e = record { is = e; chosen = s.chosen; coming = (and_parts (t w) (list_all t ws) (ap (list_all t) (sym b) ∙ s.coming)).1 }
+  pub enter : (p q : List A) (n : ℕ) (before : List A) (w : A) (ws : List A) (rest whole : Option (List A)) → before ≡ w ∷ ws → q ≡ p ++ w ∷ [] → left p (suc n) before rest ≡ whole
+      → left q n ws (left p (suc n) ws rest) ≡ whole
+  enter p q n before w ws rest whole b e is =
+      ap (λ (r : List A). left r n ws (left p (suc n) ws rest)) e
+      ∙ sym (or-or (first_after f (p ++ w ∷ []) n ws) (first_after f p (suc n) ws) rest)
+      ∙ ap (λ (o : Option (List A)). option_or o rest) (sym (after_more f p n w ws))
+      ∙ ap (λ (xs : List A). left p (suc n) xs rest) (sym b)
+      ∙ is
 
   -- a loop is over
-  pub over : (p : List A) (n : ℕ) (none : List A) (rest whole : Option (List A)) → none ≡ [] → Still t f p (suc n) none rest whole → rest ≡ whole
-  over p n none rest whole e s = ap (λ (o : Option (List A)). option_or o rest) (sym (ap (first_after f p (suc n)) e ∙ after_end f p n)) ∙ s.is
-
-  -- a loop is over, and the one around it goes on
-  pub leave : (p q : List A) (n m : ℕ) (before : List A) (w : A) (ws none : List A) (rest whole : Option (List A)) → before ≡ w ∷ ws → none ≡ [] → Still t f p n before rest whole
-      → Still t f q (suc m) none (left p n ws rest) whole → Still t f p n ws rest whole
-  leave p q n m before w ws none rest whole b e s i = behind p n before w ws rest whole b s (over q m none (left p n ws rest) whole e i)
+  pub over : (p : List A) (n : ℕ) (none : List A) (rest whole : Option (List A)) → none ≡ [] → left p (suc n) none rest ≡ whole → rest ≡ whole
+  over p n none rest whole e is = ap (λ (o : Option (List A)). option_or o rest) (sym (ap (first_after f p (suc n)) e ∙ after_end f p n)) ∙ is
 
   -- with the next line something is found, or not
   pub found : {B : Type 0} (g : B → List A) (o : Option B) (p q : List A) (n : ℕ) (before : List A) (w : A) (ws : List A) (rest whole : Option (List A)) → before ≡ w ∷ ws → q ≡ p ++ w ∷ []
-      → option_map g o ≡ first_after f q n ws → is_some o ≡ true → Still t f p (suc n) before rest whole → option_map g o ≡ whole
-  found g o p q n before w ws rest whole b e is some s =
-      some_or g o (left p (suc n) ws rest) whole some (ap (λ (r : Option (List A)). option_or r (left p (suc n) ws rest)) is ∙ (enter p q n before w ws rest whole b e s).is)
+      → option_map g o ≡ first_after f q n ws → is_some o ≡ true → left p (suc n) before rest ≡ whole → option_map g o ≡ whole
+  found g o p q n before w ws rest whole b e now some is =
+      some_or g o (left p (suc n) ws rest) whole some (ap (λ (r : Option (List A)). option_or r (left p (suc n) ws rest)) now ∙ enter p q n before w ws rest whole b e is)
 
   pub past : {B : Type 0} (g : B → List A) (o : Option B) (p q : List A) (n : ℕ) (before : List A) (w : A) (ws : List A) (rest whole : Option (List A)) → before ≡ w ∷ ws → q ≡ p ++ w ∷ []
-      → option_map g o ≡ first_after f q n ws → is_some o ≡ false → Still t f p (suc n) before rest whole → Still t f p (suc n) ws rest whole
-  past g o p q n before w ws rest whole b e is none s =
-      behind p (suc n) before w ws rest whole b s
-      (none_or g o (left p (suc n) ws rest) whole none (ap (λ (r : Option (List A)). option_or r (left p (suc n) ws rest)) is ∙ (enter p q n before w ws rest whole b e s).is))
+      → option_map g o ≡ first_after f q n ws → is_some o ≡ false → left p (suc n) before rest ≡ whole → left p (suc n) ws rest ≡ whole
+  past g o p q n before w ws rest whole b e now none is =
+      none_or g o (left p (suc n) ws rest) whole none (ap (λ (r : Option (List A)). option_or r (left p (suc n) ws rest)) now ∙ enter p q n before w ws rest whole b e is)
 
   -- all lines are taken with the next: they pass, or they don't
-  pub passed : (p q : List A) (before : List A) (w : A) (ws : List A) (rest whole : Option (List A)) → before ≡ w ∷ ws → q ≡ p ++ w ∷ [] → true ≡ f q → Still t f p 1 before rest whole → Some q ≡ whole
-  passed p q before w ws rest whole b e is s = found (λ c. c) (Some q) p q 0 before w ws rest whole b e (ap (λ (y : Bool). cond y (Some q) None) is ∙ sym (after_last f q ws)) refl s
+  pub passed : (p q : List A) (before : List A) (w : A) (ws : List A) (rest whole : Option (List A)) → before ≡ w ∷ ws → q ≡ p ++ w ∷ [] → true ≡ f q → left p 1 before rest ≡ whole → Some q ≡ whole
+  passed p q before w ws rest whole b e t is = found (λ c. c) (Some q) p q 0 before w ws rest whole b e (ap (λ (y : Bool). cond y (Some q) None) t ∙ sym (after_last f q ws)) refl is
 
-  pub failed : (p q : List A) (before : List A) (w : A) (ws : List A) (rest whole : Option (List A)) → before ≡ w ∷ ws → q ≡ p ++ w ∷ [] → false ≡ f q → Still t f p 1 before rest whole → Still t f p 1 ws rest whole
-  failed p q before w ws rest whole b e is s = past {B = List A} (λ c. c) None p q 0 before w ws rest whole b e (ap (λ (y : Bool). cond y (Some q) None) is ∙ sym (after_last f q ws)) refl s
+  pub failed : (p q : List A) (before : List A) (w : A) (ws : List A) (rest whole : Option (List A)) → before ≡ w ∷ ws → q ≡ p ++ w ∷ [] → false ≡ f q → left p 1 before rest ≡ whole → left p 1 ws rest ≡ whole
+  failed p q before w ws rest whole b e t is = past {B = List A} (λ c. c) None p q 0 before w ws rest whole b e (ap (λ (y : Bool). cond y (Some q) None) t ∙ sym (after_last f q ws)) refl is
 
 pub none-found : {B : Type 0} (o : Option B) → is_some o ≡ false → o ≡ None
 none-found None e = refl
@@ -148,3 +119,7 @@ size_past f ws most n g o whole h e t inv =
 pub size_end : {A : Type 0} (f : List A → Bool) (ws : List A) (most n : ℕ) → most + 1 ≤ n → by_size f ws (most + 1 - n) n ≡ None
 unfolding by_size
 size_end f ws most n h = let e : most + 1 - n ≡ 0 = omega arith in rw e
+
+pub size_last : {A B : Type 0} (f : List A → Bool) (ws : List A) (most n : ℕ) (g : B → List A) (o : Option B) (whole : Option (List A)) → n < most + 1 → most ≤ n
+    → option_map g o ≡ first_right f (choices n ws) → is_some o ≡ false → by_size f ws (most + 1 - n) n ≡ whole → None ≡ whole
+size_last f ws most n g o whole h l e t inv = sym (size_end f ws most (n + 1) (omega arith)) ∙ size_past f ws most n g o whole h e t inv

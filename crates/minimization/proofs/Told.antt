@@ -1,6 +1,5 @@
 -- The least question as it is found, and as it stands where it is written.
-use Rattle.std.proofs.Common.{◌≡◌, ℕ, ◌<◌, ◌≤◌, true, false, ltb, List, [], ◌∷◌, ◌++◌, length, Some, None, Option, Result, unwrap_or, sym, refl, ap, ◌∙◌, subst, arith}
-use Rattle.std.specs.List.{list_all}
+use Rattle.std.proofs.Common.{◌≡◌, ℕ, ◌<◌, ◌≤◌, true, false, ltb, List, ◌++◌, length, Some, None, Option, Result, unwrap_or, sym, refl, ap, ◌∙◌, subst, arith}
 use Rattle.std.proofs.lemmas.Bool.Decides.{nat_tests}
 use Rattle.question.specs.declared.refusals.Refusal.{Refusal}
 use Rattle.question.specs.declared.refusals.Refusal.TheVariants.{NoRoomForQuestion}
@@ -25,11 +24,6 @@ least-is q ls e = ap (λ (o : Option (List Line)). with_lines q (unwrap_or o q.l
 -- of what is found among its lent lines
 pub among-lent : (q : Question) (ws : List Line) (n : ℕ) (o : Option (List Line)) → ws ≡ q.lines → n ≡ length ws → o ≡ by_size (says_same q) ws n 1 → o ≡ by_size (says_same q) q.lines (length q.lines) 1
 among-lent q ws n o w e h = h ∙ ap (λ (k : ℕ). by_size (says_same q) ws k 1) e ∙ ap (λ (vs : List Line). by_size (says_same q) vs (length vs) 1) w
-
--- the test takes any line
-pub all-taken : (ls : List Line) → list_all (λ _. true) ls ≡ true
-all-taken [] = refl
-all-taken (l ∷ ls) = all-taken ls
 
 -- its lines are the question's
 least-row : (q : Question) → (least q).row ≡ q.row

@@ -1,6 +1,5 @@
 // The first choice of lines that passes a test, by size and then by places.
-ghost use Rattle.std.specs.Prelude.{◌≡◌, ◌<◌, ◌≤◌, true, ◌++◌, length};
-ghost use Rattle.std.specs.List.{list_all};
+ghost use Rattle.std.specs.Prelude.{◌≡◌, ◌<◌, ◌≤◌, length};
 ghost use Rattle.std.specs.Option.{option_map};
 ghost use Rattle.question.specs.Lent.{lines_of};
 ghost use Rattle.minimization.specs.Choices.{choices, first_right, first_after, by_size};
@@ -11,19 +10,17 @@ use super::test::Test;
 use question::Lines;
 
 // Lines to choose from, and the test that a choice of them has to pass.
-#[derive(Drop)]
+#[derive(Clone, Copy)]
 pub struct Candidates<'a, T: Test> {
     pub test: T,
     pub lines: Lines<'a, 16>,
-    ghost taken: { list_all (T.takes test) (lines_of lines) ≡ true },
 }
 
 // Choices of two, three and four lines are tried by nested loops, which are left from inside by a label.
 impl<'a, T: Test> Candidates<'a, T> {
     // The chosen lines and the first of those behind them that they pass with.
     fn first_with(&self, chosen: &Chosen, behind: &Lines<'_, 16>) -> Option<Chosen>
-        requires few { length (meant chosen.now) < 4 }
-        requires taken { list_all (T.takes self.now.test) (meant chosen.now ++ lines_of behind.now) ≡ true }
+        requires { length (meant chosen.now) < 4 }
         ensures { option_map meant result ≡ first_after (T.decides self.now.test) (meant chosen.now) 1 (lines_of behind.now) }
     {
         for line in *behind {

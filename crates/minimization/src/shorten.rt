@@ -1,5 +1,5 @@
 // The least question that says the same, written down.
-ghost use Rattle.std.specs.Prelude.{◌≡◌, ◌≤◌, true, ◌++◌, length, drop};
+ghost use Rattle.std.specs.Prelude.{◌≡◌, ◌≤◌, ◌++◌, length, drop};
 ghost use Rattle.question.specs.Layout.{question_in, question_out};
 ghost use Rattle.question.specs.Lent.{question_of};
 ghost use Rattle.minimization.specs.Least.{says_same, least};
@@ -18,8 +18,6 @@ struct SaysSame<'a> {
 
 impl<'a> Test for SaysSame<'a> {
     ghost decides = { λ s. says_same (question_of s.question) };
-
-    ghost takes = { λ _ _. true };
 
     fn passes(&self, lines: &Lines<'_, 16>) -> bool {
         reads_into(&self.question, lines)

@@ -5,11 +5,8 @@ use Rattle.question.proofs.Accepted.{checked}
 use Rattle.minimization.specs.Meant.{meant}
 use Rattle.minimization.specs.Least.{least}
 use Rattle.minimization.proofs.Fewest.{with_lines, some-choice}
-use Rattle.minimization.proofs.Told.{least-is, among-lent, all-taken}
+use Rattle.minimization.proofs.Told.{least-is, among-lent}
 use Rattle.minimization.proofs.shorten.write_least.Goals as goal
-
-pub invariant_of-candidates : goal.invariant_of-candidates
-invariant_of-candidates c = record { taken = all-taken (lines_of c.lines-lines.result) }
 
 pub unreachable-requires : goal.unreachable-requires
 unreachable-requires c =

@@ -1,7 +1,7 @@
-use Rattle.std.proofs.Common.{◌+◌, sym, ◌∙◌, arith}
+use Rattle.std.proofs.Common.{sym, ◌∙◌, arith}
 use Rattle.question.specs.Lent.{lines_of}
 use Rattle.minimization.specs.Meant.{meant}
-use Rattle.minimization.proofs.After.{size_found, size_past, size_end}
+use Rattle.minimization.proofs.After.{size_found, size_past, size_last, size_end}
 use Rattle.minimization.proofs.choose.Candidates.first_of_sizes.Goals as goal
 
 pub returns-then-is_some : goal.returns-then-is_some
@@ -17,6 +17,4 @@ returns g c = sym (size_end (g.T.Test.decides c.args.self.now.test) (lines_of c.
 
 pub returns-else-is_some : goal.returns-else-is_some
 returns-else-is_some g c =
-    let f = g.T.Test.decides c.args.self.now.test in
-    let ws = lines_of c.args.self.now.lines in
-    sym (size_end f ws c.args.most (c.loop-n.n + 1) (omega arith)) ∙ size_past f ws c.args.most c.loop-n.n meant c.first_choice-first.result _ (omega arith) c.first_choice-first.ensures (sym c.if-is_some.ensures) c.loop-n.invariant
+    size_last (g.T.Test.decides c.args.self.now.test) (lines_of c.args.self.now.lines) c.args.most c.loop-n.n meant c.first_choice-first.result _ (omega arith) (omega arith) c.first_choice-first.ensures (sym c.if-is_some.ensures) c.loop-n.invariant

@@ -1,7 +1,7 @@
 // What finding the fewest uses answers.
 use question::Refusal;
 
-#[derive(Clone, Copy)]
+#[derive(Clone, Copy, PartialEq, Eq, Debug)]
 pub enum Reply {
     // The reports answer it: how many uses of them that takes.
     By(u64),

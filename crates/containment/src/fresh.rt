@@ -10,12 +10,8 @@ use question::{Lines, Question, Term, Terms};
 fn terms_name(terms: &Terms<'_, 16>, n: u64) -> bool
     ensures { result ≡ has (numbers (terms_of terms.now)) n }
 {
-    for term in *terms {
-        if let Term::Number(m) = term && u64::from(m) == n {
-            return true;
-        }
-    }
-    false
+    let mut terms = *terms;
+    terms.any(|term| matches!(term, Term::Number(m) if u64::from(m) == n))
 }
 
 // Whether one of the lines names the number.
@@ -37,13 +33,20 @@ fn names_number(question: &Question<'_>, n: u64) -> bool
     terms_name(&question.row(), n) || lines_name(&question.lines(), n)
 }
 
+// Whether one of the two questions names the number.
+fn named(first: &Question<'_>, second: &Question<'_>, n: u64) -> bool
+    ensures { result ≡ has (question_numbers (question_of first.now) ++ question_numbers (question_of second.now)) n }
+{
+    names_number(first, n) || names_number(second, n)
+}
+
 // The least number from one on that neither question names.
 fn free_from(first: &Question<'_>, second: &Question<'_>, from: u64) -> u64
     requires { free_from (question_numbers (question_of first.now) ++ question_numbers (question_of second.now)) from ≤ 100 }
     ensures { result ≡ free_from (question_numbers (question_of first.now) ++ question_numbers (question_of second.now)) from }
 {
     let mut n = from;
-    while names_number(first, n) || names_number(second, n) {
+    while named(first, second, n) {
         n += 1;
     }
     n

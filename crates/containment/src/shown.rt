@@ -46,79 +46,85 @@ fn gives_row(before: &Lines<'_, 16>, line: &Line<'_, 16>, of: u64) -> bool
     line.table() == of && !has_line(before, line)
 }
 
-// How many rows the table has.
-fn count_rows(lines: &Lines<'_, 16>, of: u64) -> usize
-    ensures { (v : Value) → result ≡ length (rows_of v of (lines_once (lines_of lines.now))) }
-{
-    let mut count = 0;
-    for (i, line) in (*lines).enumerate() {
-        if gives_row(&lines.front(i), &line, of) {
-            count += 1;
-        }
-    }
-    count
+// A question's own tables, to be written: its lines, and the values that name its variables.
+#[derive(Clone, Copy)]
+struct OwnTables<'a> {
+    lines: Lines<'a, 16>,
+    values: &'a [u64; 16],
+    ghost few: { length (lines_of lines) ≤ 4 },
+    ghost sixteen: { length values.now ≡ 16 },
 }
 
-// How many tables the lines name.
-fn count_tables(lines: &Lines<'_, 16>) -> usize
-    ensures { result ≡ length (table_heads (lines_of lines.now)) }
-{
-    let mut count = 0;
-    for (i, line) in (*lines).enumerate() {
-        if !has_table(&lines.front(i), &line) {
-            count += 1;
+impl<'a> OwnTables<'a> {
+    // How many rows the table has.
+    fn count_rows(&self, of: u64) -> usize
+        ensures { (v : Value) → result ≡ length (rows_of v of (lines_once (lines_of self.now.lines))) }
+    {
+        let mut count = 0;
+        for (i, line) in self.lines.enumerate() {
+            if gives_row(&self.lines.front(i), &line, of) {
+                count += 1;
+            }
         }
+        count
     }
-    count
-}
 
-// Writes the rows of the table, cell after cell, to the front of room: how many numbers they are.
-fn write_rows(lines: &Lines<'_, 16>, of: u64, values: &[u64; 16], room: &mut [u64]) -> usize
-    requires { length (cells_out (rows_of (value_in values.now) of (lines_once (lines_of lines.now)))) ≤ length room.old }
-    ensures count { result ≡ length (cells_out (rows_of (value_in values.now) of (lines_once (lines_of lines.now)))) }
-    ensures written { room.new ≡ cells_out (rows_of (value_in values.now) of (lines_once (lines_of lines.now))) ++ drop result room.old }
-{
-    let mut at = 0;
-    for (i, line) in (*lines).enumerate() {
-        if gives_row(&lines.front(i), &line, of) {
-            line.row_under(values, &mut room[at..]);
-            at += line.width();
+    // How many tables the lines name.
+    fn count(&self) -> usize
+        ensures { result ≡ length (table_heads (lines_of self.now.lines)) }
+    {
+        let mut count = 0;
+        for (i, line) in self.lines.enumerate() {
+            if !has_table(&self.lines.front(i), &line) {
+                count += 1;
+            }
         }
+        count
     }
-    at
-}
 
-// Writes the table that a line names to the front of room: how many numbers it is.
-fn write_table(
-    lines: &Lines<'_, 16>,
-    head: &Line<'_, 16>,
-    values: &[u64; 16],
-    room: &mut [u64],
-) -> usize
-    requires { length (table_out (value_in values.now) (lines_once (lines_of lines.now)) (line_of head.now)) ≤ length room.old }
-    ensures count { result ≡ length (table_out (value_in values.now) (lines_once (lines_of lines.now)) (line_of head.now)) }
-    ensures written { room.new ≡ table_out (value_in values.now) (lines_once (lines_of lines.now)) (line_of head.now) ++ drop result room.old }
-{
-    let of = head.table();
-    room[0] = of;
-    room[1] = count_rows(lines, of) as u64;
-    room[2] = head.width() as u64;
-    3 + write_rows(lines, of, values, &mut room[3..])
-}
-
-// Writes each table to the front of room, in order of the first line that names it: how many numbers they are.
-fn write_each(lines: &Lines<'_, 16>, values: &[u64; 16], room: &mut [u64]) -> usize
-    requires { length (each_out (value_in values.now) (lines_once (lines_of lines.now)) (table_heads (lines_of lines.now))) ≤ length room.old }
-    ensures count { result ≡ length (each_out (value_in values.now) (lines_once (lines_of lines.now)) (table_heads (lines_of lines.now))) }
-    ensures written { room.new ≡ each_out (value_in values.now) (lines_once (lines_of lines.now)) (table_heads (lines_of lines.now)) ++ drop result room.old }
-{
-    let mut at = 0;
-    for (i, line) in (*lines).enumerate() {
-        if !has_table(&lines.front(i), &line) {
-            at += write_table(lines, &line, values, &mut room[at..]);
+    // Writes the rows of the table, cell after cell, to the front of room: how many numbers they are.
+    fn write_rows(&self, of: u64, room: &mut [u64]) -> usize
+        requires { length (cells_out (rows_of (value_in self.now.values.now) of (lines_once (lines_of self.now.lines)))) ≤ length room.old }
+        ensures count { result ≡ length (cells_out (rows_of (value_in self.now.values.now) of (lines_once (lines_of self.now.lines)))) }
+        ensures written { room.new ≡ cells_out (rows_of (value_in self.now.values.now) of (lines_once (lines_of self.now.lines))) ++ drop result room.old }
+    {
+        let mut at = 0;
+        for (i, line) in self.lines.enumerate() {
+            if gives_row(&self.lines.front(i), &line, of) {
+                line.row_under(self.values, &mut room[at..]);
+                at += line.width();
+            }
         }
+        at
     }
-    at
+
+    // Writes the table that a line names to the front of room: how many numbers it is.
+    fn write_table(&self, head: &Line<'_, 16>, room: &mut [u64]) -> usize
+        requires { length (table_out (value_in self.now.values.now) (lines_once (lines_of self.now.lines)) (line_of head.now)) ≤ length room.old }
+        ensures count { result ≡ length (table_out (value_in self.now.values.now) (lines_once (lines_of self.now.lines)) (line_of head.now)) }
+        ensures written { room.new ≡ table_out (value_in self.now.values.now) (lines_once (lines_of self.now.lines)) (line_of head.now) ++ drop result room.old }
+    {
+        let of = head.table();
+        room[0] = of;
+        room[1] = self.count_rows(of) as u64;
+        room[2] = head.width() as u64;
+        3 + self.write_rows(of, &mut room[3..])
+    }
+
+    // Writes each table to the front of room, in order of the first line that names it: how many numbers they are.
+    fn write_each(&self, room: &mut [u64]) -> usize
+        requires { length (each_out (value_in self.now.values.now) (lines_once (lines_of self.now.lines)) (table_heads (lines_of self.now.lines))) ≤ length room.old }
+        ensures count { result ≡ length (each_out (value_in self.now.values.now) (lines_once (lines_of self.now.lines)) (table_heads (lines_of self.now.lines))) }
+        ensures written { room.new ≡ each_out (value_in self.now.values.now) (lines_once (lines_of self.now.lines)) (table_heads (lines_of self.now.lines)) ++ drop result room.old }
+    {
+        let mut at = 0;
+        for (i, line) in self.lines.enumerate() {
+            if !has_table(&self.lines.front(i), &line) {
+                at += self.write_table(&line, &mut room[at..]);
+            }
+        }
+        at
+    }
 }
 
 // Writes a question's own tables, its variables named by the values, to the front of room: how many numbers they are.
@@ -127,7 +133,10 @@ pub(crate) fn write_tables(question: &Question<'_>, values: &[u64; 16], room: &m
     ensures count { result ≡ length (tables_out (value_in values.now) (question_of question.now)) }
     ensures written { room.new ≡ tables_out (value_in values.now) (question_of question.now) ++ drop result room.old }
 {
-    let lines = question.lines();
-    room[0] = count_tables(&lines) as u64;
-    1 + write_each(&lines, values, &mut room[1..])
+    let tables = OwnTables {
+        lines: question.lines(),
+        values,
+    };
+    room[0] = tables.count() as u64;
+    1 + tables.write_each(&mut room[1..])
 }

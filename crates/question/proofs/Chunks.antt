@@ -1,13 +1,14 @@
 -- Terms and lines in lent numbers, cut into a list for each: what the layout says of the numbers holds of these lists.
-use Rattle.std.proofs.Common.{◌≡◌, ℕ, zero, suc, ◌*◌, ◌/◌, ◌<◌, ◌≤◌, true, Bool, ◌&&◌, List, [], ◌∷◌, ◌++◌, map, length, get_or, take, drop, refl, ap, eq-eqb, ◌∙◌, ◌-◌, arith}
+use Rattle.std.proofs.Common.{◌≡◌, ℕ, zero, suc, ◌+◌, ◌*◌, ◌/◌, ◌<◌, ◌≤◌, true, Bool, ◌&&◌, List, [], ◌∷◌, ◌++◌, map, length, get_or, take, drop, min, Option, refl, ap, eq-eqb, ◌∙◌, ◌-◌, arith}
 use Rattle.std.specs.List.{list_all, flat_map}
 use Rattle.std.specs.Simd.{first_chunks}
 use Rattle.std.proofs.lemmas.Bool.{and_parts, and_from, eqb-true}
-use Rattle.std.proofs.lemmas.List.{get_or-take, take-take, length-take-le, length-drop, length-append}
+use Rattle.std.proofs.lemmas.List.{get_or-take, take-take, length-take-le, length-drop, length-append, drop-drop, take_all}
 use Rattle.std.proofs.lemmas.Slice.{between_is}
 use Rattle.std.proofs.Math.Nat.{mul-div_cancel_left}
 use Rattle.question.specs.declared.terms.Term.{Term}
-use Rattle.question.specs.Layout.{pair_term, pair_fits, two_fit, terms_in, terms_fit, terms_out, line_in, line_fits, ten_fit, lines_in, lines_fit, line_out, lines_out}
+use Rattle.question.specs.Layout.{pair_term, pair_fits, two_fit, terms_in, terms_fit, terms_out, line_in, line_fits, line_part, ten_fit, lines_in, lines_fit, line_out, lines_out}
+use Rattle.question.specs.Check.{line_agrees, agrees, line_good, least_fault}
 use Rattle.question.proofs.Fitting.{line_fits-take, line_fits-cells}
 use Rattle.question.proofs.Decoding.{line_in-take, length-terms_in}
 use Rattle.question.proofs.Written.{term_out_in}
@@ -17,6 +18,12 @@ terms_in-cut : (n : ℕ) (xs : List ℕ) → map pair_term (first_chunks 2 n xs)
 unfolding terms_in
 terms_in-cut zero xs = refl
 terms_in-cut (suc n) xs = rw (get_or-take 2 xs 0 0 (omega arith), get_or-take 2 xs 1 0 (omega arith), terms_in-cut n (drop 2 xs))
+
+-- whether terms fit, pair by pair
+pub terms_fit-pairs : (limit n : ℕ) (xs : List ℕ) → list_all (pair_fits limit) (first_chunks 2 n xs) ≡ terms_fit limit n xs
+unfolding terms_fit
+terms_fit-pairs limit zero xs = refl
+terms_fit-pairs limit (suc n) xs = rw (get_or-take 2 xs 0 0 (omega arith), get_or-take 2 xs 1 0 (omega arith), terms_fit-pairs limit n (drop 2 xs))
 
 terms_fit-cut : (limit n : ℕ) (xs : List ℕ) → 2 * n ≤ length xs → terms_fit limit n xs ≡ true → list_all (two_fit limit) (first_chunks 2 n xs) ≡ true
 unfolding terms_fit
@@ -55,6 +62,10 @@ all-chunks : (k n : ℕ) (xs : List ℕ) → 0 < k → k * n ≤ length xs → f
 all-chunks k n xs h l =
     let e : length (take (k * n) xs) ≡ k * n = length-take-le _ _ l in
     rw (e, mul-div_cancel_left n h, chunks-take k n (k * n) xs (omega arith))
+
+pub all_terms-cut : (limit n : ℕ) (xs : List ℕ) (ps : List (List ℕ)) → 2 * n ≤ length xs
+    → ps ≡ first_chunks 2 (length (take (2 * n) xs) / 2) (take (2 * n) xs) → list_all (pair_fits limit) ps ≡ terms_fit limit n xs
+all_terms-cut limit n xs ps h e = rw (e, all-chunks 2 n xs (omega arith) h) (terms_fit-pairs limit n xs)
 
 pub terms-cut : (limit n : ℕ) (xs : List ℕ) (ps : List (List ℕ)) → 2 * n ≤ length xs → terms_fit limit n xs ≡ true
     → ps ≡ first_chunks 2 (length (take (2 * n) xs) / 2) (take (2 * n) xs) → (list_all (two_fit limit) ps ≡ true) × (map pair_term ps ≡ terms_in n xs)
@@ -99,3 +110,46 @@ pub all-front : {A : Type 0} (f : A → Bool) (n : ℕ) (xs : List A) → list_a
 all-front f zero xs e = refl
 all-front f (suc n) [] e = refl
 all-front f (suc n) (x ∷ xs) e = let p = and_parts _ _ e in and_from _ _ p.0 (all-front f n xs p.1)
+
+-- the first n of more chunks, and the n-th
+pub chunks-front : (k n m : ℕ) (xs : List ℕ) → n ≤ m → take n (first_chunks k m xs) ≡ first_chunks k n xs
+chunks-front k zero m xs h = refl
+chunks-front k (suc n) zero xs h = absurd (omega arith)
+chunks-front k (suc n) (suc m) xs h = rw (chunks-front k n m (drop k xs) (omega arith))
+
+pub length-chunks : (k n : ℕ) (xs : List ℕ) → length (first_chunks k n xs) ≡ n
+length-chunks k zero xs = refl
+length-chunks k (suc n) xs = ap suc (length-chunks k n (drop k xs))
+
+pub chunk_at : (n i : ℕ) (xs : List ℕ) → i < n → get_or (first_chunks 10 n xs) i [] ≡ line_part i xs
+unfolding line_part
+chunk_at zero i xs h = absurd (omega arith)
+chunk_at (suc n) zero xs h = refl
+chunk_at (suc n) (suc i) xs h =
+    let d : 10 * suc i ≡ 10 + 10 * i = omega arith in
+    chunk_at n i (drop 10 xs) (omega arith) ∙ rw (d, drop-drop (10 * i) 10 xs) refl
+
+-- whether lines agree, line by line
+pub agrees-cut : (n t w : ℕ) (xs : List ℕ) → list_all (line_agrees t w) (first_chunks 10 n xs) ≡ agrees n t w xs
+unfolding agrees
+agrees-cut zero t w xs = refl
+agrees-cut (suc n) t w xs = rw (get_or-take 10 xs 0 0 (omega arith), get_or-take 10 xs 1 0 (omega arith), agrees-cut n t w (drop 10 xs))
+
+-- a line behind i others that are lent is good
+pub good-cut : (n i : ℕ) (xs : List ℕ) (ps : List (List ℕ)) (p : List ℕ) → i < n → ps ≡ first_chunks 10 n xs → p ≡ get_or ps i []
+    → (line_fits 16 p && list_all (line_agrees (get_or p 0 0) (get_or p 1 0)) (take i ps)) ≡ line_good xs i
+good-cut n i xs ps p h e f = rw (f, e, chunk_at n i xs h, chunks-front 10 i n xs (omega arith), agrees-cut i (get_or (line_part i xs) 0 0) (get_or (line_part i xs) 1 0) xs) refl
+
+-- the least line at fault, of the lines of a question
+first-fault : (m w : ℕ) (xs : List ℕ) (ps : List (List ℕ)) (o : Option ℕ) → 10 * m ≤ length xs → length xs ≤ w → ps ≡ first_chunks 10 (length (take w xs) / 10) (take w xs)
+    → ((n : ℕ) (ys : List ℕ) → take m ps ≡ first_chunks 10 n ys → o ≡ least_fault ys n 0) → o ≡ least_fault xs m 0
+first-fault m w xs ps o h k e f =
+    let l : m ≤ length xs / 10 = omega arith in
+    f m xs (rw (e, take_all w xs k) (chunks-front 10 m (length xs / 10) xs l))
+
+pub fault-lent : (m w : ℕ) (xs : List ℕ) (ps : List (List ℕ)) (o : Option ℕ) → 50 ≤ length xs → m ≡ min (get_or xs 9 0) 4 → length xs ≤ w + 10
+    → ps ≡ first_chunks 10 (length (take w (drop 10 xs)) / 10) (take w (drop 10 xs))
+    → ((n : ℕ) (ys : List ℕ) → take m ps ≡ first_chunks 10 n ys → o ≡ least_fault ys n 0) → o ≡ least_fault (drop 10 xs) (min (get_or xs 9 0) 4) 0
+fault-lent m w xs ps o h z k e f =
+    let l = length-drop 10 xs in
+    first-fault m w (drop 10 xs) ps o (omega (arith, l)) (omega (arith, l)) e f ∙ ap (λ n. least_fault (drop 10 xs) n 0) z

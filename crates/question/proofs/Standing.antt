@@ -50,22 +50,22 @@ pub has_no_line : (x i : ℕ) (ls : List Line) → length ls ≤ i → has (line
 unfolding line_vars has
 has_no_line x i ls h = ap (λ (ms : List Line). has (line_vars ms) x) (drop_all i ls h)
 
--- the row: a number, a variable that stands, one that does not, and the end
-pub all_in_number : (i : ℕ) (ts : List Term) (ms : List ℕ) (n : ℕ) → drop i ts ≡ Number n ∷ drop (i + 1) ts → all_in (vars (drop i ts)) ms ≡ all_in (vars (drop (i + 1) ts)) ms
+-- terms that are still to come: a number, a variable that is in the list, one that is not, and the end
+pub all_in-number : (ts : List Term) (ms : List ℕ) (n : ℕ) (us : List Term) → ts ≡ Number n ∷ us → all_in (vars ts) ms ≡ all_in (vars us) ms
 unfolding vars
-all_in_number i ts ms n e = ap (λ (us : List Term). all_in (vars us) ms) e
+all_in-number ts ms n us e = ap (λ (vs : List Term). all_in (vars vs) ms) e
 
-pub all_in_next : (i : ℕ) (ts : List Term) (ms : List ℕ) (x : ℕ) → drop i ts ≡ Variable x ∷ drop (i + 1) ts → has ms x ≡ true → all_in (vars (drop i ts)) ms ≡ all_in (vars (drop (i + 1) ts)) ms
+pub all_in-rest : (ts : List Term) (ms : List ℕ) (x : ℕ) (us : List Term) → ts ≡ Variable x ∷ us → has ms x ≡ true → all_in (vars ts) ms ≡ all_in (vars us) ms
 unfolding vars all_in
-all_in_next i ts ms x e f = ap (λ (us : List Term). all_in (vars us) ms) e ∙ rw f
+all_in-rest ts ms x us e f = ap (λ (vs : List Term). all_in (vars vs) ms) e ∙ rw f
 
-pub all_in_stop : (i : ℕ) (ts : List Term) (ms : List ℕ) (x : ℕ) → drop i ts ≡ Variable x ∷ drop (i + 1) ts → has ms x ≡ false → all_in (vars (drop i ts)) ms ≡ false
+pub all_in-stop : (ts : List Term) (ms : List ℕ) (x : ℕ) (us : List Term) → ts ≡ Variable x ∷ us → has ms x ≡ false → all_in (vars ts) ms ≡ false
 unfolding vars all_in
-all_in_stop i ts ms x e f = ap (λ (us : List Term). all_in (vars us) ms) e ∙ rw f
+all_in-stop ts ms x us e f = ap (λ (vs : List Term). all_in (vars vs) ms) e ∙ rw f
 
-pub all_in_end : (i : ℕ) (ts : List Term) (ms : List ℕ) → length ts ≤ i → all_in (vars (drop i ts)) ms ≡ true
+pub all_in-none : (ts : List Term) (ms : List ℕ) → ts ≡ [] → all_in (vars ts) ms ≡ true
 unfolding vars all_in
-all_in_end i ts ms h = ap (λ (us : List Term). all_in (vars us) ms) (drop_all i ts h)
+all_in-none ts ms e = ap (λ (vs : List Term). all_in (vars vs) ms) e
 
 -- a variable stands in terms if one of them, alone, has it
 pub has-any : (x : ℕ) (ts : List Term) → list_any (λ t. has (vars (t ∷ [])) x) ts ≡ has (vars ts) x

@@ -3,7 +3,7 @@ ghost use Rattle.std.specs.Prelude.{◌≡◌, ◌*◌, ◌≤◌, true, ◌∷�
 ghost use Rattle.std.specs.List.{list_all};
 ghost use Rattle.std.specs.Iterator.{YieldsFirstBy, item_count};
 ghost use Rattle.question.specs.Question.{all_at};
-ghost use Rattle.question.specs.Sound.{has, vars, line_vars};
+ghost use Rattle.question.specs.Sound.{has, vars, line_vars, all_in};
 ghost use Rattle.question.specs.Layout.{line_in, line_fits, ten_fit, lines_in, lines_fit, line_out, lines_out, padded, value_in};
 
 use super::terms::{Term, Terms};
@@ -87,7 +87,7 @@ pub struct Lines<'a, const LIMIT: usize> {
 }
 
 impl<'a, const LIMIT: usize> Lines<'a, LIMIT> {
-    ghost use Rattle.question.specs.Lent.{lines_of};
+    ghost use Rattle.question.specs.Lent.{terms_of, lines_of};
 
     // The first n lines that lie in the numbers.
     pub fn first_of(numbers: &'a [u64], n: usize) -> Lines<'a, LIMIT>
@@ -155,6 +155,21 @@ impl<'a, const LIMIT: usize> Lines<'a, LIMIT> {
             }
         }
         false
+    }
+
+    // Whether every variable among the terms stands in one of them.
+    pub(crate) fn have_all<const OTHER: usize>(&self, terms: &Terms<'_, OTHER>) -> bool
+        ensures { result ≡ all_in (vars (terms_of terms.now)) (line_vars (lines_of self.now)) }
+    {
+        for term in *terms {
+            let Term::Variable(x) = term else {
+                continue;
+            };
+            if !self.have(x) {
+                return false;
+            }
+        }
+        true
     }
 }
 

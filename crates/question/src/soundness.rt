@@ -1,10 +1,10 @@
-// Whether a variable stands in a line, and whether every variable of the row does.
+// Whether a variable stands in a line.
 ghost use Rattle.std.specs.Prelude.{◌≡◌, ◌*◌, ◌≤◌, true, length, None};
-ghost use Rattle.question.specs.Sound.{has, vars, line_vars, all_in};
-ghost use Rattle.question.specs.Layout.{terms_in, terms_fit, line_in, line_fits, lines_in, lines_fit, question_in};
+ghost use Rattle.question.specs.Sound.{has, vars, line_vars};
+ghost use Rattle.question.specs.Layout.{line_in, line_fits, lines_in, lines_fit, question_in};
 ghost use Rattle.question.specs.Check.{question_refusal};
 
-use super::parts::{line_count, line_term, lines_of, nth_line, nth_term, width};
+use super::parts::{line_count, line_term, lines_of, nth_line, width};
 use super::terms::Term;
 
 // Whether the variable is a term of the line.
@@ -34,23 +34,6 @@ fn stands_in_lines(x: u8, lines: &[u64], n: usize) -> bool
         }
     }
     false
-}
-
-// Whether every variable of the first n terms of a row stands in one of the first m lines.
-pub(crate) fn row_stands(row: &[u64], n: usize, lines: &[u64], m: usize) -> bool
-    requires row { (2 * n ≤ length row.now) × (terms_fit 256 n row.now ≡ true) }
-    requires lines { (10 * m ≤ length lines.now) × (lines_fit 256 m lines.now ≡ true) }
-    ensures { result ≡ all_in (vars (terms_in n row.now)) (line_vars (lines_in m lines.now)) }
-{
-    for i in 0..n {
-        let Term::Variable(x) = nth_term(row, i) else {
-            continue;
-        };
-        if !stands_in_lines(x, lines, m) {
-            return false;
-        }
-    }
-    true
 }
 
 // Whether the variable stands in a line of the question.

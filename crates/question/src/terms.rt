@@ -2,7 +2,7 @@
 ghost use Rattle.std.specs.Prelude.{◌≡◌, ◌*◌, ◌≤◌, true, false, [], ◌∷◌, ◌++◌, length, drop, Some, MatchResult};
 ghost use Rattle.std.specs.List.{list_all};
 ghost use Rattle.std.specs.Iterator.{YieldsFirst, item_count};
-ghost use Rattle.question.specs.Layout.{terms_out, pair_term, pair_fits, two_fit, padded, value_in};
+ghost use Rattle.question.specs.Layout.{terms_out, code, pair_term, pair_fits, two_fit, padded, value_in};
 ghost use Rattle.question.specs.Question.{at, all_at};
 ghost use Rattle.question.specs.Sound.{TermWithin};
 ghost use Rattle.question.specs.Texts.{term_text};
@@ -28,6 +28,16 @@ impl Term {
         match self {
             Term::Number(n) => (0, u64::from(n)),
             Term::Variable(x) => (1, u64::from(x)),
+        }
+    }
+
+    // The one number that it can be kept as: a number as itself, the variable x as 2^32 + x.
+    pub fn code(self) -> u64
+        ensures { result ≡ code self }
+    {
+        match self {
+            Term::Number(n) => u64::from(n),
+            Term::Variable(x) => 4294967296 + u64::from(x),
         }
     }
 

@@ -29,7 +29,7 @@ impl fmt::Display for Use<'_> {
 
 // A question over reports as it is printed: how many uses, and each.
 #[derive(Clone, Copy)]
-pub struct OverReports<'a>(pub Question<'a>);
+struct OverReports<'a>(Question<'a>);
 
 impl fmt::Display for OverReports<'_> {
     ghost output = { λ p. Some (found_text (question_of p.0)) };

@@ -9,3 +9,17 @@ pub enum Reply {
     Impossible,
     Refused(Refusal),
 }
+
+impl From<Result<Option<u64>, Refusal>> for Reply {
+    ghost use Rattle.rewriting.specs.Answer.{reply_of};
+
+    ghost from_gives = { λ found reply. reply ≡ reply_of found };
+
+    fn from(found: Result<Option<u64>, Refusal>) -> Reply {
+        match found {
+            Ok(Some(uses)) => Reply::By(uses),
+            Ok(None) => Reply::Impossible,
+            Err(refusal) => Reply::Refused(refusal),
+        }
+    }
+}

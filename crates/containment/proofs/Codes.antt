@@ -5,7 +5,8 @@ use Rattle.question.specs.declared.terms.Term.{Term}
 use Rattle.question.specs.declared.terms.Term.TheVariants.{Number, Variable}
 use Rattle.question.specs.Sound.{TermWithin}
 use Rattle.containment.specs.Search.{term_eqb, Part, match_var, match_term}
-use Rattle.containment.specs.Coding.{code, decode, Codes, part_of}
+use Rattle.question.specs.Layout.{code, Codes}
+use Rattle.containment.specs.Coding.{decode, part_of}
 use Rattle.containment.proofs.Coding.{decode-code, part_set}
 use Rattle.containment.proofs.Searching.{term_eqb_true}
 

@@ -3,22 +3,12 @@ ghost use Rattle.std.specs.Prelude.{◌≡◌, ◌≤◌, false, length, None};
 ghost use Rattle.question.specs.Sound.{TermWithin};
 ghost use Rattle.question.specs.Lent.{terms_of, line_of};
 ghost use Rattle.containment.specs.Search.{nothing, match_term, match_terms, match_line};
-ghost use Rattle.containment.specs.Coding.{code, Codes, part_of};
+ghost use Rattle.containment.specs.Coding.{part_of};
 
 use question::{Line, Term, Terms};
 
 // The code of a variable that is not put: 2^33.
 const NOT_PUT: u64 = 8589934592;
-
-// The number that a term is in a reading.
-fn code(term: Term) -> u64
-    ensures { (result ≡ code term) × (Codes term) }
-{
-    match term {
-        Term::Number(n) => u64::from(n),
-        Term::Variable(x) => 4294967296 + u64::from(x),
-    }
-}
 
 // A code for each of x0 to x15: n where it is put as the number n, 2^32 + x where it is put as the variable x.
 #[derive(Clone, Copy)]
@@ -44,9 +34,9 @@ impl Reading {
         requires { TermWithin from }
         ensures { told result ≡ match_term (part_of self.codes) from to }
     {
-        let wanted = code(to);
+        let wanted = to.code();
         let Term::Variable(x) = from else {
-            return if code(from) == wanted {
+            return if from.code() == wanted {
                 Some(self)
             } else {
                 None
@@ -83,9 +73,9 @@ impl Reading {
         requires { TermWithin from }
         ensures { result ≡ false → match_term (part_of self.now.codes) from to ≡ None }
     {
-        let wanted = code(to);
+        let wanted = to.code();
         let Term::Variable(x) = from else {
-            return code(from) == wanted;
+            return from.code() == wanted;
         };
         let so_far = self.codes[x as usize];
         so_far >= NOT_PUT || so_far == wanted

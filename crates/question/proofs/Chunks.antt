@@ -58,7 +58,7 @@ chunks-take k (suc n) m xs h =
     rw (take-take k m xs a, ← between_is xs k m, chunks-take k n (m - k) (drop k xs) b)
 
 -- the first n chunks are all that the first k * n numbers have
-all-chunks : (k n : ℕ) (xs : List ℕ) → 0 < k → k * n ≤ length xs → first_chunks k (length (take (k * n) xs) / k) (take (k * n) xs) ≡ first_chunks k n xs
+pub all-chunks : (k n : ℕ) (xs : List ℕ) → 0 < k → k * n ≤ length xs → first_chunks k (length (take (k * n) xs) / k) (take (k * n) xs) ≡ first_chunks k n xs
 all-chunks k n xs h l =
     let e : length (take (k * n) xs) ≡ k * n = length-take-le _ _ l in
     rw (e, mul-div_cancel_left n h, chunks-take k n (k * n) xs (omega arith))

@@ -1,5 +1,5 @@
 -- How terms, lines and questions lie in lent numbers: a term is two numbers, a line ten, a question fifty. Assumes nothing: these are definitions.
-use Rattle.std.specs.Prelude.{ℕ, zero, suc, ◌+◌, ◌-◌, ◌*◌, Bool, true, cond, ◌&&◌, List, [], ◌∷◌, ◌++◌, length, take, drop, replicate, ◌==◌, nat_le, nat_lt, slice_index}
+use Rattle.std.specs.Prelude.{ℕ, zero, suc, ◌<◌, ◌+◌, ◌-◌, ◌*◌, Bool, true, cond, ◌&&◌, List, [], ◌∷◌, ◌++◌, length, take, drop, replicate, ◌==◌, nat_le, nat_lt, slice_index}
 use Rattle.question.specs.declared.terms.Term.{Term}
 use Rattle.question.specs.declared.terms.Term.TheVariants.{Number, Variable}
 use Rattle.question.specs.Question.{Line, Question, Value}
@@ -33,9 +33,14 @@ abbrev pub two_fit : (limit : ℕ) → List ℕ → Bool
 two_fit limit p = (length p == 2) && pair_fits limit p
 
 -- a term as one number: the number n is n, and the variable x is 2^32 + x
-abbrev pub code : Term → ℕ
+unfoldable pub code : Term → ℕ
 code (Number n) = n
 code (Variable x) = 4294967296 + x
+
+-- terms that have such a number of their own
+abbrev pub Codes : Term → Type 0
+Codes (Number n) = n < 4294967296
+Codes (Variable x) = x < 4294967296
 
 -- a line is its table, the count of its cells, and room for four terms
 abbrev pub line_in : List ℕ → Line

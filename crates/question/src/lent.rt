@@ -30,6 +30,14 @@ impl<'a> Question<'a> {
         Ok(Question { numbers })
     }
 
+    // The question that numbers begin with that are known to have passed the check.
+    pub fn of_checked(numbers: &'a [u64]) -> Question<'a>
+        requires { question_refusal numbers.now ≡ None }
+        ensures { question_of result ≡ question_in numbers.now }
+    {
+        Question { numbers }
+    }
+
     // The terms of its row.
     pub fn row(&self) -> Terms<'a, 16>
         ensures row { terms_of result ≡ (question_of self.now).row }

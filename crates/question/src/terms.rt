@@ -2,9 +2,9 @@
 ghost use Rattle.std.specs.Prelude.{◌≡◌, ◌*◌, ◌≤◌, true, false, [], ◌∷◌, ◌++◌, length, drop, Some, MatchResult};
 ghost use Rattle.std.specs.List.{list_all};
 ghost use Rattle.std.specs.Iterator.{YieldsFirst, item_count};
-ghost use Rattle.question.specs.Layout.{terms_out, code, pair_term, pair_fits, two_fit, padded, value_in};
+ghost use Rattle.question.specs.Layout.{terms_out, code, Codes, pair_term, pair_fits, two_fit, padded, value_in};
 ghost use Rattle.question.specs.Question.{at, all_at};
-ghost use Rattle.question.specs.Sound.{TermWithin};
+ghost use Rattle.question.specs.Sound.{TermWithin, has, vars};
 ghost use Rattle.question.specs.Texts.{term_text};
 
 use std::fmt;
@@ -33,7 +33,8 @@ impl Term {
 
     // The one number that it can be kept as: a number as itself, the variable x as 2^32 + x.
     pub fn code(self) -> u64
-        ensures { result ≡ code self }
+        ensures code { result ≡ code self }
+        ensures own { Codes self }
     {
         match self {
             Term::Number(n) => u64::from(n),
@@ -120,6 +121,14 @@ impl<'a, const LIMIT: usize> Terms<'a, LIMIT> {
         ensures { result ≡ length (terms_of self.now) }
     {
         self.left.len()
+    }
+
+    // Whether the variable is one of them.
+    pub fn have(&self, x: u8) -> bool
+        ensures { result ≡ has (vars (terms_of self.now)) x }
+    {
+        let mut terms = *self;
+        terms.any(|term| term == Term::Variable(x))
     }
 
     // Writes them into the room for four, with 0 where room is left.

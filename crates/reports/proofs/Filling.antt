@@ -1,4 +1,4 @@
--- The line that a reading makes: what its codes stand for, one term more, and the whole line, which fits.
+-- Lines made of terms that are put as others: what codes stand for, one term more, and the whole line, which fits.
 use Rattle.std.proofs.Common.{◌≡◌, ℕ, zero, suc, ◌+◌, ◌-◌, ◌*◌, ◌<◌, ◌≤◌, true, List, [], ◌∷◌, ◌++◌, length, get_or, take, drop, set, replicate, sym, refl, ap, ◌∙◌, subst, arith, le-ltb, lt-ltb}
 use Rattle.std.proofs.lemmas.List.{append_assoc, take_all, take_at, take_more, drop_more, drop-replicate, length-append, length-take-le, get_or_default}
 use Rattle.question.specs.declared.terms.Term.{Term}

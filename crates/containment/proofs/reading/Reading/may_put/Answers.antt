@@ -5,7 +5,7 @@ use Rattle.containment.proofs.Codes.{number-other, variable_other, has-place}
 use Rattle.containment.proofs.reading.Reading.may_put.Goals as goal
 
 pub returns-in_default : goal.returns-in_default
-returns-in_default c = λ no. number-other (part_of c.args.self.now.codes) c.in_default.field-0 c.args.from c.args.to c.in_default.is (λ e. eqb-false c.code.result c.code-wanted.result no (c.code.ensures.0 ∙ e ∙ sym c.code-wanted.ensures.0))
+returns-in_default c = λ no. number-other (part_of c.args.self.now.codes) c.in_default.field-0 c.args.from c.args.to c.in_default.is (λ e. eqb-false c.code.result c.code-wanted.result no (c.code.ensures.code ∙ e ∙ sym c.code-wanted.ensures.code))
 
 pub returns-else-so_far-ge-NOT_PUT : goal.returns-else-so_far-ge-NOT_PUT
 returns-else-so_far-ge-NOT_PUT c = λ no.

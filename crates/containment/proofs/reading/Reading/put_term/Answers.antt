@@ -5,7 +5,7 @@ use Rattle.containment.proofs.reading.Reading.put_term.Goals as goal
 
 pub returns-then-code-wanted : goal.returns-then-code-wanted
 returns-then-code-wanted c =
-    sym (number_same (part_of c.args.self.codes) c.in_default.field-0 c.args.from c.args.to c.in_default.is c.code.ensures.1 c.code-wanted.ensures.1 (cc))
+    sym (number_same (part_of c.args.self.codes) c.in_default.field-0 c.args.from c.args.to c.in_default.is c.code.ensures.own c.code-wanted.ensures.own (cc))
 
 pub returns-else-code-wanted : goal.returns-else-code-wanted
 returns-else-code-wanted c =
@@ -14,12 +14,12 @@ returns-else-code-wanted c =
 pub returns-then-put-ge-NOT_PUT : goal.returns-then-put-ge-NOT_PUT
 returns-then-put-ge-NOT_PUT c =
     let h = has-place c.args.from c.in-Variable.x c.args.self.codes c.requires c.in-Variable.is c.args.self.sixteen in
-    rw c.code-wanted.ensures.0 (sym (variable_new c.args.self.codes c.in-Variable.x c.args.from c.args.to c.in-Variable.is h c.code-wanted.ensures.1 c.if-put-ge-NOT_PUT.true))
+    rw c.code-wanted.ensures.code (sym (variable_new c.args.self.codes c.in-Variable.x c.args.from c.args.to c.in-Variable.is h c.code-wanted.ensures.own c.if-put-ge-NOT_PUT.true))
 
 pub returns-then-put-wanted : goal.returns-then-put-wanted
 returns-then-put-wanted c =
     let h = has-place c.args.from c.in-Variable.x c.args.self.codes c.requires c.in-Variable.is c.args.self.sixteen in
-    sym (variable_same c.args.self.codes c.in-Variable.x c.args.from c.args.to c.in-Variable.is h c.code-wanted.ensures.1 (cc))
+    sym (variable_same c.args.self.codes c.in-Variable.x c.args.from c.args.to c.in-Variable.is h c.code-wanted.ensures.own (cc))
 
 pub returns-else-put-wanted : goal.returns-else-put-wanted
 returns-else-put-wanted c =

@@ -14,7 +14,7 @@ use super::plan::plan;
 use super::reply::Answer;
 use super::slots::SlotPlan;
 use super::tables::{check_tables, whole};
-use join::put_out;
+use join::{Join, NoRoomAfter, Setting};
 use narrow::narrow;
 use question::{Refusal, check_question};
 use std::alloc::{AllocError, Global};
@@ -54,27 +54,26 @@ fn put_rows(
     plan: &SlotPlan,
     rows: Vec<[u64; 5]>,
     out: &mut [u64],
-) -> Result<Result<usize, usize>, AllocError>
+) -> Result<Result<usize, NoRoomAfter>, AllocError>
     requires { Joinable (plan_in plan.now) }
     ensures { MatchResult result
         (λ put. PutOut (asked_by (plan_in plan.now) rows.items) out.old out.new put)
         (λ _. out.new ≡ out.old) }
 {
+    let setting = Setting {
+        n: plan.n,
+        shown: plan.shown,
+        k: plan.k,
+        env: plan.env,
+    };
     let mut lines = Vec::from_slice(heap, &plan.lines[..plan.count])?;
-    let left = narrow(
-        heap, rows, &mut lines, plan.n, plan.shown, plan.k, &plan.env,
-    )?;
-    let put = put_out(
-        &left,
-        &lines,
-        plan.n,
-        plan.shown,
-        plan.k,
-        &plan.env,
-        &plan.row[..plan.width],
-        out,
-    );
-    Ok(put)
+    let left = narrow(heap, rows, &mut lines, &setting)?;
+    let join = Join {
+        rows: &left,
+        lines: &lines,
+        setting: &setting,
+    };
+    Ok(join.put_out(&plan.row[..plan.width], out))
 }
 
 // Answers the question from the tables: every row once, in order, one after another from the front of out.
@@ -94,6 +93,6 @@ pub fn answer(heap: Global, question: &[u64], tables: &[u64], out: &mut [u64]) -
     };
     match put {
         Ok(count) => Answer::Rows(count as u64),
-        Err(count) => Answer::Refused(Refusal::NoRoomForRow(count as u64)),
+        Err(NoRoomAfter(count)) => Answer::Refused(Refusal::NoRoomForRow(count as u64)),
     }
 }

@@ -27,7 +27,7 @@ term_eqb-other s t h = go (term_eqb s t) refl
     go false e = refl
 
 -- what is not put, and what is put: a term with that code
-decode_past : (k : ℕ) → 8589934592 ≤ k → decode k ≡ None
+pub decode_past : (k : ℕ) → 8589934592 ≤ k → decode k ≡ None
 unfolding decode
 decode_past k h = let a : 4294967296 ≤ k = omega arith in rw (le-ltb k 4294967296 a, le-ltb k 8589934592 h)
 

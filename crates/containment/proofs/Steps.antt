@@ -1,7 +1,6 @@
 -- One step of each loop of the search, and its end.
-use Rattle.std.proofs.Common.{◌≡◌, ℕ, suc, ◌+◌, ◌≤◌, Bool, true, false, cond, eqb, List, [], ◌∷◌, length, drop, is_some, Some, None, Option, sym, refl, ap, ◌∙◌, ap₂, eq-eqb, ne_eqb, arith}
+use Rattle.std.proofs.Common.{◌≡◌, suc, Bool, true, false, cond, eqb, List, [], ◌∷◌, length, is_some, Some, None, Option, sym, refl, ap, ◌∙◌, ap₂, eq-eqb, ne_eqb, arith}
 use borrow.Author.Tests.{clash}
-use Rattle.std.proofs.lemmas.List.{drop_all}
 use Rattle.question.specs.declared.terms.Term.{Term}
 use Rattle.question.specs.Question.{Line}
 use Rattle.containment.specs.Search.{Part, and_then, match_term, match_terms, match_line, try_lines, read_lines}

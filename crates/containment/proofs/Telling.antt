@@ -70,11 +70,7 @@ unrefused first second room a b h =
     let cr : ltb (length room) 64 ≡ false = grind (arith, nat_tests) in
     rw (cf, cs, a, b, cr)
 
--- what is said where the second can be read into the first, and where it can't
-pub says_within : (first second room : List ℕ) → question_refusal first ≡ None → question_refusal second ≡ None → 64 ≤ length room → can_read (question_in second) (question_in first) ≡ true
-    → within_says (within_refusal first second room) first second room ≡ (Ok answer.Within, room)
-says_within first second room a b h e = rw (unrefused first second room a b h, e)
-
+-- what is said where the second can't be read into the first
 pub says_apart : (first second room vs : List ℕ) → question_refusal first ≡ None → question_refusal second ≡ None → 64 ≤ length room → can_read (question_in second) (question_in first) ≡ false
     → ((x : ℕ) → x < 16 → get_or vs x 0 ≡ naming (question_in first) (question_in second) x)
     → within_says (within_refusal first second room) first second room

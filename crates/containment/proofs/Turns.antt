@@ -112,8 +112,8 @@ written_room whole rest entry room ys a h same w =
     (k, rw (take_rest room a, length-drop a room) (omega (arith, k)))
 
 -- what is left may be said otherwise
-pub written_same : (whole rest more entry room : List ℕ) (a : ℕ) → rest ≡ more → Written whole rest entry room a → Written whole more entry room a
-written_same whole rest more entry room a e w = record { left = w.left ∙ e; front = w.front; within = w.within }
+pub written_same : {whole rest more entry room : List ℕ} {a : ℕ} → rest ≡ more → Written whole rest entry room a → Written whole more entry room a
+written_same e w = record { left = w.left ∙ e; front = w.front; within = w.within }
 
 -- the next row, or none
 pub rows-skip : (v : Value) (t i : ℕ) (ls : List Line) (l : Line) (ms : List Line) → drop i ls ≡ l ∷ ms → false ≡ cond (eqb l.table t) (not (has_same line_eqb (take i ls) l)) false

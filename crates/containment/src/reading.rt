@@ -82,11 +82,7 @@ impl Reading {
     }
 
     // The same for each of the terms alone: if one may not, they can't be put together. This spares copies of the reading.
-    fn may_put_all<const LIMIT: usize>(
-        &self,
-        from: &Terms<'_, 16>,
-        to: &Terms<'_, LIMIT>,
-    ) -> bool
+    fn may_put_all<const LIMIT: usize>(&self, from: &Terms<'_, 16>, to: &Terms<'_, LIMIT>) -> bool
         ensures { result ≡ false → match_terms (part_of self.now.codes) (terms_of from.now) (terms_of to.now) ≡ None }
     {
         for (term, other) in (*from).zip(*to) {

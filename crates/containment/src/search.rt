@@ -60,5 +60,6 @@ pub fn reads_into<const LIMIT: usize>(question: &Question<'_>, lines: &Lines<'_,
     let Some(reading) = row_reading(question, question) else {
         return false;
     };
-    can_read_lines(reading, &question.lines(), lines)
+    let from = question.lines();
+    can_read_lines(reading, &from, lines)
 }

@@ -52,7 +52,6 @@ struct OwnTables<'a> {
     lines: Lines<'a, 16>,
     values: &'a [u64; 16],
     ghost few: { length (lines_of lines) ≤ 4 },
-    ghost sixteen: { length values.now ≡ 16 },
 }
 
 impl<'a> OwnTables<'a> {

@@ -94,7 +94,6 @@ pairs-flat limit (p ∷ ps) f =
 pub line_few : (limit : ℕ) (xs : List ℕ) → line_fits limit xs ≡ true → length (line_in xs).cells ≤ 4
 line_few limit xs e = rw (length-terms_in (get_or xs 1 0) (drop 2 xs)) (line_fits-cells limit xs e).1
 
-
 -- lines that fit are ten numbers each, as they are written
 pub lines-long : (limit : ℕ) (ps : List (List ℕ)) → list_all (ten_fit limit) ps ≡ true → length (lines_out (map line_in ps)) ≡ 10 * length (map line_in ps)
 unfolding lines_out

@@ -18,13 +18,13 @@ pub use laws::{
     more_rows_more_answers, numbers_are_only_told_apart, written_is_accepted, written_reads_back,
     written_reports_read_back,
 };
+pub use lent::Question;
+pub use lines::{Line, Lines};
 pub use parts::{
     line_at, line_count, line_term, lines_of, nth_line, nth_term, row_term, row_width, table, width,
 };
 pub use refusals::Refusal;
 pub use rows::{line_row, question_row};
 pub use soundness::has_variable;
-pub use lent::Question;
-pub use lines::{Line, Lines};
 pub use terms::{NoTerm, Term, Terms};
 pub use write::write_question;

@@ -6,7 +6,7 @@ ghost use Rattle.question.specs.Question.{all_at};
 ghost use Rattle.question.specs.Sound.{has, vars, line_vars, all_in};
 ghost use Rattle.question.specs.Layout.{line_in, line_fits, ten_fit, lines_in, lines_fit, line_out, lines_out, padded, value_in};
 
-use super::terms::Terms;
+use super::terms::{Term, Terms};
 
 // A line (the field says: atom), in its ten lent numbers: its table, how many terms it has, and room for four. Its variables are below LIMIT.
 #[derive(Clone, Copy)]

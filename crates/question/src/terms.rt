@@ -1,5 +1,5 @@
 // One term of a row or of a line, and the terms of a row or of a line one after another.
-ghost use Rattle.std.specs.Prelude.{◌≡◌, ◌*◌, ◌≤◌, true, false, [], ◌∷◌, ◌++◌, length, drop, Some, MatchResult};
+ghost use Rattle.std.specs.Prelude.{◌≡◌, ◌*◌, ◌≤◌, true, false, [], ◌∷◌, ◌++◌, length, drop, Some, MatchOption, MatchResult};
 ghost use Rattle.std.specs.List.{list_all};
 ghost use Rattle.std.specs.Iterator.{YieldsFirst, item_count};
 ghost use Rattle.question.specs.Layout.{terms_out, code, Codes, pair_term, pair_fits, two_fit, padded, value_in};
@@ -40,6 +40,19 @@ impl Term {
             Term::Number(n) => u64::from(n),
             Term::Variable(x) => 4294967296 + u64::from(x),
         }
+    }
+
+    // The term that has the code, if there is one.
+    pub fn of_code(kept: u64) -> Option<Term>
+        ensures { MatchOption result (4294967552 ≤ kept) (λ t. (kept ≡ code t) × Codes t) }
+    {
+        if let Ok(n) = u32::try_from(kept) {
+            return Some(Term::Number(n));
+        }
+        let Ok(x) = u8::try_from(kept - 4294967296) else {
+            return None;
+        };
+        Some(Term::Variable(x))
     }
 
     // The number that it is under sixteen values.

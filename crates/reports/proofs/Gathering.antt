@@ -1,5 +1,5 @@
 -- All readings of a report, one after another: each step of going through the lines, and that what they put stays within the limits.
-use Rattle.std.proofs.Common.{◌≡◌, ℕ, suc, ◌+◌, ◌-◌, ◌<◌, ◌≤◌, Bool, true, false, cond, eqb, nat_lt, List, [], ◌∷◌, map, length, get_or, Some, None, Option, sym, refl, ap, ◌∙◌, subst, inl, inr, arith, lit<, ltb-true, ltb-false}
+use Rattle.std.proofs.Common.{◌≡◌, ℕ, suc, ◌+◌, ◌-◌, ◌<◌, ◌≤◌, Bool, true, false, cond, eqb, nat_lt, List, [], ◌∷◌, map, length, get_or, Some, None, Option, MatchOption, sym, refl, ap, ◌∙◌, subst, inl, inr, arith, lit<, ltb-true, ltb-false}
 use Rattle.std.proofs.lemmas.List.{map-append}
 use Rattle.std.specs.List.{list_all}
 use Rattle.std.proofs.lemmas.Bool.{and_from, cases_lt}
@@ -12,6 +12,10 @@ use Rattle.question.specs.Question.{Line, In}
 use Rattle.question.specs.Sound.{TermWithin}
 use Rattle.containment.specs.Search.{term_eqb, Part, nothing, put_one, and_then, match_var, match_term, match_terms, match_line, fill, filling}
 use Rattle.containment.specs.Coding.{decode, part_of}
+use Rattle.containment.proofs.Coding.{decode-code}
+use Rattle.containment.proofs.Codes.{decode_past}
+use Rattle.question.specs.Layout.{code, Codes}
+use Rattle.std.specs.Option.{unwrap_or}
 use Rattle.reports.specs.Widest.{all_lines, all_readings, code_within, insert_line}
 use Rattle.reports.specs.Uses.{insert_all}
 use Rattle.reports.proofs.Inserting.{insert_all-append, insert_all_longer}
@@ -123,3 +127,12 @@ codes-within a e x = elim (cases_lt x (length a)) [
 pub within-codes : (a : List ℕ) → Within (part_of a) → list_all code_within a ≡ true
 within-codes [] w = refl
 within-codes (k ∷ a) w = and_from _ _ (code-number k (w 0)) (within-codes a (λ x. w (suc x)))
+
+-- what a code stands for, as it is had again
+pub code-put : (o : Option Term) (k : ℕ) → MatchOption o (4294967552 ≤ k) (λ t. (k ≡ code t) × Codes t) → code_within k ≡ true → unwrap_or o (Number 0) ≡ fill (decode k)
+unfolding fill
+code-put (Some t) k h w = rw (h.0, decode-code t h.1)
+code-put None k h w = let g : 8589934592 ≤ k = grind (arith, nat_tests) in rw (decode_past k g)
+
+pub code_at : (a : List ℕ) (x : ℕ) → list_all code_within a ≡ true → x < length a → code_within (get_or a x 0) ≡ true
+code_at a x e h = AllPass-from_list_all code_within a e x 0 h

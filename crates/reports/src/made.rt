@@ -6,7 +6,7 @@ ghost use Rattle.containment.specs.Coding.{part_of};
 ghost use Rattle.reports.specs.Widest.{code_within};
 
 use super::put::Put;
-use containment::{Reading, match_line};
+use containment::Reading;
 use question::{Line, Term};
 
 // A reading that puts nothing as what no question has.
@@ -34,7 +34,7 @@ impl OwnReading {
     pub(crate) fn put_line(&self, from: &Line<'_, 16>, to: &Line<'_, 16>) -> Option<OwnReading>
         ensures { option_map own_part result ≡ match_line (own_part self.now) (line_of from.now) (line_of to.now) }
     {
-        let reading = match_line(self.reading, from.numbers(), to.numbers())?;
+        let reading = self.reading.put_line(from, to)?;
         Some(OwnReading { reading })
     }
 }
@@ -44,13 +44,6 @@ impl Put for OwnReading {
     ghost how = { λ s. filling (part_of s.reading.codes) };
 
     fn variable(&self, x: u8) -> Term {
-        let code = self.reading.codes[x as usize];
-        if code < 4294967296 {
-            return Term::Number(code as u32);
-        }
-        if code < 8589934592 {
-            return Term::Variable((code - 4294967296) as u8);
-        }
-        Term::Number(0)
+        Term::of_code(self.reading.codes[x as usize]).unwrap_or(Term::Number(0))
     }
 }

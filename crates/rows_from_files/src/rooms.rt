@@ -18,10 +18,7 @@ pub struct Answered {
 fn no_room(answer: Answer) -> bool
     ensures { result ≡ no_room answer }
 {
-    match answer {
-        Answer::Refused(Refusal::NoRoomForRow(_)) => true,
-        _ => false,
-    }
+    matches!(answer, Answer::Refused(Refusal::NoRoomForRow(_)))
 }
 
 // Answers in a new room of so many numbers.
@@ -50,8 +47,7 @@ pub fn answer_in_room(
     let mut size = 65_536;
     loop {
         let answered = answer_in(heap, question, tables, size)?;
-        let enough = !no_room(answered.answer) || size == 16_777_216;
-        if enough {
+        if !no_room(answered.answer) || size == 16_777_216 {
             return Ok(answered);
         }
         size = (4 * size).min(16_777_216);

@@ -47,4 +47,4 @@ returns-in-Err c =
     let k : Copied b q p rows = copied_by b q p rows (λ i h. (c.plan-plan.ensures.planned.line i h).few) c.in-Ok-copy_tables.ensures in
     let long : length c.put_rows.new.out ≡ length c.args.out.now = search rules in
     let h = subst (PutOut (asked_by p rows) c.args.out.now c.put_rows.new.out) c.in-Err.is c.in-Ok-put_rows.ensures in
-    (c.in-Ok.ensures.0, no_room b q p rows c.plan-plan.ensures.planned k c.args.out.now c.put_rows.new.out c.in-Err.count long h.0 h.1)
+    (c.in-Ok.ensures.0, no_room b q p rows c.plan-plan.ensures.planned k c.args.out.now c.put_rows.new.out c.in-Err.field-0.0 long h.0 h.1)

@@ -1,4 +1,4 @@
-use Rattle.std.proofs.Common.{◌≡◌, is_some, sym, ap, ◌∙◌}
+use Rattle.std.proofs.Common.{is_some, sym, ap, ◌∙◌}
 use Rattle.question.specs.Lent.{line_of, lines_of}
 use Rattle.containment.specs.Search.{read_lines}
 use Rattle.containment.specs.Coding.{part_of}

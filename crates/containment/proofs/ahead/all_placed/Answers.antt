@@ -1,4 +1,4 @@
-use Rattle.std.proofs.Common.{◌≡◌, sym, ◌∙◌, refl}
+use Rattle.std.proofs.Common.{sym, ◌∙◌, refl}
 use Rattle.question.specs.Lent.{line_of, lines_of}
 use Rattle.containment.specs.Coding.{part_of}
 use Rattle.containment.proofs.Placed.{placed_next, placed_stop, placed_end}

@@ -1,4 +1,4 @@
-use Rattle.std.proofs.Common.{◌≡◌, is_some, Some, sym, ap, ◌∙◌, refl}
+use Rattle.std.proofs.Common.{is_some, Some, sym, ap, ◌∙◌, refl}
 use Rattle.question.specs.Lent.{line_of, lines_of}
 use Rattle.containment.specs.Coding.{part_of}
 use Rattle.containment.proofs.Found.{told-or-not}

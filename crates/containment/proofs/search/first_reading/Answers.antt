@@ -1,4 +1,4 @@
-use Rattle.std.proofs.Common.{◌≡◌, None, List, Option, sym, ◌∙◌, ap, ap₂}
+use Rattle.std.proofs.Common.{◌≡◌, List, Option, sym, ◌∙◌, ap, ap₂}
 use Rattle.question.specs.Question.{Line}
 use Rattle.question.specs.Lent.{question_of}
 use Rattle.containment.specs.Search.{Part, read_lines, first_reading}

@@ -1,4 +1,4 @@
-use Rattle.std.proofs.Common.{rules, ◌≡◌, length, List, Option, sym, ◌∙◌, ap, ap₂}
+use Rattle.std.proofs.Common.{rules, length, List, Option, sym, ◌∙◌, ap, ap₂}
 use Rattle.question.specs.declared.terms.Term.{Term}
 use Rattle.question.specs.Lent.{terms_of, question_of}
 use Rattle.containment.specs.Search.{Part, nothing, match_terms}

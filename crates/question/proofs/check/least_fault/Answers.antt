@@ -1,4 +1,4 @@
-use Rattle.std.proofs.Common.{◌≡◌, ◌∙◌, ◌<◌, ◌≤◌, length, get_or, [], ap, refl, sym, arith}
+use Rattle.std.proofs.Common.{◌∙◌, ◌<◌, ◌≤◌, length, ap, refl, sym, arith}
 use Rattle.question.proofs.Faults.{fault-next, fault_stop, fault_end}
 use Rattle.question.proofs.Chunks.{length-chunks, good-cut}
 use Rattle.question.proofs.check.least_fault.Goals as goal

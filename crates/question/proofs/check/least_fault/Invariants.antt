@@ -1,4 +1,4 @@
-use Rattle.std.proofs.Common.{◌≡◌, ℕ, ◌-◌, ◌≤◌, List}
+use Rattle.std.proofs.Common.{◌≡◌, ℕ, ◌-◌, List}
 use Rattle.std.specs.Simd.{first_chunks}
 use Rattle.question.specs.Check.{least_fault}
 use Rattle.question.proofs.check.least_fault.Given as goal

@@ -1,4 +1,4 @@
-use Rattle.std.proofs.Common.{◌≡◌, min, true, get_or, drop, sym, arith}
+use Rattle.std.proofs.Common.{arith}
 use Rattle.std.proofs.lemmas.Bool.Decides.{nat_tests}
 use Rattle.std.proofs.lemmas.List.{take_rest}
 use Rattle.question.proofs.Faults.{sound_lent}

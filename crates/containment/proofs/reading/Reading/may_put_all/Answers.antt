@@ -26,4 +26,4 @@ pub returns-then-not-may_put : goal.returns-then-not-may_put
 returns-then-not-may_put g c = λ _.
     let s = c.in-Some.ensures.steps in
     stuck (part_of c.args.self.now.codes) (length c.loop-term.yielded) (terms_of c.args.from.now) (terms_of c.args.to.now) c.in-Some.term c.in-Some.other _ _
-        (sym c.loop-term.invariant.2 ∙ s.0) (sym c.loop-term.invariant.3 ∙ s.1) (c.may_put.ensures c.if-not-may_put.true)
+    (sym c.loop-term.invariant.2 ∙ s.0) (sym c.loop-term.invariant.3 ∙ s.1) (c.may_put.ensures c.if-not-may_put.true)

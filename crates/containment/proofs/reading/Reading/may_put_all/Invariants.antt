@@ -1,4 +1,4 @@
-use Rattle.std.proofs.Common.{◌≡◌, ◌++◌, drop, length}
+use Rattle.std.proofs.Common.{◌≡◌, drop, length}
 use Rattle.question.specs.Lent.{terms_of}
 use Rattle.containment.proofs.reading.Reading.may_put_all.Given as goal
 

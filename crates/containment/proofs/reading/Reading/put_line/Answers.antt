@@ -1,7 +1,7 @@
-use Rattle.std.proofs.Common.{rules, ◌≡◌, length, sym, ◌∙◌, ap, ap₂}
+use Rattle.std.proofs.Common.{rules, sym, ◌∙◌, ap₂}
 use Rattle.std.proofs.Common.{Option, List}
 use Rattle.question.specs.declared.terms.Term.{Term}
-use Rattle.question.specs.Lent.{terms_of, line_of}
+use Rattle.question.specs.Lent.{line_of}
 use Rattle.containment.specs.Search.{Part, match_terms}
 use Rattle.containment.specs.Coding.{part_of}
 use Rattle.containment.proofs.Steps.{lines-apart, widths_apart, lines_alike}

@@ -1,7 +1,6 @@
-use Rattle.std.proofs.Common.{◌≡◌, length, sym, ◌∙◌, refl, ap, arith}
+use Rattle.std.proofs.Common.{length, sym, ◌∙◌, refl, ap, arith}
 use Rattle.question.specs.Lent.{terms_of}
 use Rattle.question.proofs.Within.{next_within}
-use Rattle.containment.specs.Search.{match_terms}
 use Rattle.containment.specs.Coding.{part_of}
 use Rattle.containment.specs.Told.{told}
 use Rattle.containment.proofs.Steps.{terms_next, terms_stop, terms_end, no-terms}

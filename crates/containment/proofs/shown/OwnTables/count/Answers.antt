@@ -17,9 +17,13 @@ loop-i-preserved-then-not-has_table c =
     let n = c.loop-i.i-iterator.count in
     let s = c.in-Some.ensures.steps in
     let next = sym c.loop-i.invariant.3 ∙ s.0 in
-    let named = sym c.if-not-has_table.true ∙ rw (c.front.ensures, s.1) at c.has_table.ensures in
-    (search rules, search rules, omega (arith, s.2, c.loop-i.invariant.2), rw s.2 (next-dropped n ls (line_of c.in-Some.line) _ next),
-    rw s.2 (omega (arith, c.loop-i.invariant.4, ap length (heads_next n ls (line_of c.in-Some.line) _ _ next named))))
+    let named = sym c.if-not-has_table.true ∙ rw (c.front.ensures, s.1) at c.has_table.ensures in (
+      search rules,
+      search rules,
+      omega (arith, s.2, c.loop-i.invariant.2),
+      rw s.2 (next-dropped n ls (line_of c.in-Some.line) _ next),
+      rw s.2 (omega (arith, c.loop-i.invariant.4, ap length (heads_next n ls (line_of c.in-Some.line) _ _ next named))),
+    )
 
 pub loop-i-preserved : goal.loop-i-preserved
 loop-i-preserved c =
@@ -27,9 +31,13 @@ loop-i-preserved c =
     let n = c.loop-i.i-iterator.count in
     let s = c.in-Some.ensures.steps in
     let next = sym c.loop-i.invariant.3 ∙ s.0 in
-    let named = sym c.if-not-has_table.false ∙ rw (c.front.ensures, s.1) at c.has_table.ensures in
-    (search rules, search rules, omega (arith, s.2, c.loop-i.invariant.2), rw s.2 (next-dropped n ls (line_of c.in-Some.line) _ next),
-    rw s.2 (omega (arith, c.loop-i.invariant.4, ap length (heads_next n ls (line_of c.in-Some.line) _ _ next named))))
+    let named = sym c.if-not-has_table.false ∙ rw (c.front.ensures, s.1) at c.has_table.ensures in (
+      search rules,
+      search rules,
+      omega (arith, s.2, c.loop-i.invariant.2),
+      rw s.2 (next-dropped n ls (line_of c.in-Some.line) _ next),
+      rw s.2 (omega (arith, c.loop-i.invariant.4, ap length (heads_next n ls (line_of c.in-Some.line) _ _ next named))),
+    )
 
 pub returns : goal.returns
 returns c =

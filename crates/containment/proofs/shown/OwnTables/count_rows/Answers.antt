@@ -17,9 +17,13 @@ loop-i-preserved-then-gives_row c =
     let n = c.loop-i.i-iterator.count in
     let s = c.in-Some.ensures.steps in
     let next = sym c.loop-i.invariant.3 ∙ s.0 in
-    let gives = sym c.if-gives_row.true ∙ rw (c.front.ensures, s.1) at c.gives_row.ensures in
-    (search rules, search rules, omega (arith, s.2, c.loop-i.invariant.2), rw s.2 (next-dropped n ls (line_of c.in-Some.line) _ next),
-    λ v. rw s.2 (omega (arith, c.loop-i.invariant.4 v, ap length (rows_next v c.args.of n ls (line_of c.in-Some.line) _ _ next gives))))
+    let gives = sym c.if-gives_row.true ∙ rw (c.front.ensures, s.1) at c.gives_row.ensures in (
+      search rules,
+      search rules,
+      omega (arith, s.2, c.loop-i.invariant.2),
+      rw s.2 (next-dropped n ls (line_of c.in-Some.line) _ next),
+      λ v. rw s.2 (omega (arith, c.loop-i.invariant.4 v, ap length (rows_next v c.args.of n ls (line_of c.in-Some.line) _ _ next gives))),
+    )
 
 pub loop-i-preserved : goal.loop-i-preserved
 loop-i-preserved c =
@@ -27,9 +31,13 @@ loop-i-preserved c =
     let n = c.loop-i.i-iterator.count in
     let s = c.in-Some.ensures.steps in
     let next = sym c.loop-i.invariant.3 ∙ s.0 in
-    let gives = sym c.if-gives_row.false ∙ rw (c.front.ensures, s.1) at c.gives_row.ensures in
-    (search rules, search rules, omega (arith, s.2, c.loop-i.invariant.2), rw s.2 (next-dropped n ls (line_of c.in-Some.line) _ next),
-    λ v. rw s.2 (omega (arith, c.loop-i.invariant.4 v, ap length (rows_next v c.args.of n ls (line_of c.in-Some.line) _ _ next gives))))
+    let gives = sym c.if-gives_row.false ∙ rw (c.front.ensures, s.1) at c.gives_row.ensures in (
+      search rules,
+      search rules,
+      omega (arith, s.2, c.loop-i.invariant.2),
+      rw s.2 (next-dropped n ls (line_of c.in-Some.line) _ next),
+      λ v. rw s.2 (omega (arith, c.loop-i.invariant.4 v, ap length (rows_next v c.args.of n ls (line_of c.in-Some.line) _ _ next gives))),
+    )
 
 pub returns : goal.returns
 returns c =

@@ -20,7 +20,7 @@ write_table-at-requires c =
     let l = line_of c.in-Some.line in
     let s = c.in-Some.ensures.steps in
     let named = sym c.if-not-has_table.true ∙ rw (c.front.ensures, s.1) at c.has_table.ensures in
-    let w = written_same _ _ _ _ _ _ (tables_write v (lines_once ls) n ls l _ (sym c.loop-i.invariant.2 ∙ s.0) named) c.loop-i.invariant.3 in
+    let w = written_same (tables_write v (lines_once ls) n ls l _ (sym c.loop-i.invariant.2 ∙ s.0) named) c.loop-i.invariant.3 in
     (written_room _ _ _ _ (table_out v (lines_once ls) l) _ c.requires (omega arith) w).1
 
 pub loop-i-preserved-then-not-has_table : goal.loop-i-preserved-then-not-has_table
@@ -32,7 +32,7 @@ loop-i-preserved-then-not-has_table c =
     let s = c.in-Some.ensures.steps in
     let next = sym c.loop-i.invariant.2 ∙ s.0 in
     let named = sym c.if-not-has_table.true ∙ rw (c.front.ensures, s.1) at c.has_table.ensures in
-    let w = written_same _ _ _ _ _ _ (tables_write v (lines_once ls) n ls l _ next named) c.loop-i.invariant.3 in
+    let w = written_same (tables_write v (lines_once ls) n ls l _ next named) c.loop-i.invariant.3 in
     let more = written_more _ _ _ _ (table_out v (lines_once ls) l) c.write_table-at.new.room c.loop-i.at c.write_table-at.result _ c.requires (omega arith) w c.write_table-at.ensures.count refl c.write_table-at.ensures.written in
     (search rules, search rules, rw s.2 (next-dropped n ls l _ next), rw s.2 more)
 
@@ -45,18 +45,12 @@ loop-i-preserved c =
     let s = c.in-Some.ensures.steps in
     let next = sym c.loop-i.invariant.2 ∙ s.0 in
     let named = sym c.if-not-has_table.false ∙ rw (c.front.ensures, s.1) at c.has_table.ensures in
-    (search rules, search rules, rw s.2 (next-dropped n ls l _ next), rw s.2 (written_same _ _ _ _ _ _ (tables-skip v (lines_once ls) n ls l _ next named) c.loop-i.invariant.3))
+    (search rules, search rules, rw s.2 (next-dropped n ls l _ next), rw s.2 (written_same (tables-skip v (lines_once ls) n ls l _ next named) c.loop-i.invariant.3))
 
-pub returns-clause-count : goal.returns-clause-count
+pub returns : goal.returns
 unfolding each_out
-returns-clause-count c =
+returns c =
     let ls = lines_of c.args.self.now.lines in
     let e = heads_end c.loop-i.i-iterator.count ls (sym c.loop-i.invariant.2 ∙ c.in-None.ensures.steps.0.0) in
-    (written_all _ _ _ _ (written_same _ _ _ _ _ _ (ap (each_out (value_in c.args.self.now.values.now) (lines_once ls)) e) c.loop-i.invariant.3)).0
-
-pub returns-clause-written : goal.returns-clause-written
-unfolding each_out
-returns-clause-written c =
-    let ls = lines_of c.args.self.now.lines in
-    let e = heads_end c.loop-i.i-iterator.count ls (sym c.loop-i.invariant.2 ∙ c.in-None.ensures.steps.0.0) in
-    (written_all _ _ _ _ (written_same _ _ _ _ _ _ (ap (each_out (value_in c.args.self.now.values.now) (lines_once ls)) e) c.loop-i.invariant.3)).1
+    let a = written_all _ _ _ _ (written_same (ap (each_out (value_in c.args.self.now.values.now) (lines_once ls)) e) c.loop-i.invariant.3) in
+    record { count = a.0; written = a.1 }

@@ -22,7 +22,7 @@ row_under-requires c =
     let l = line_of c.in-Some.line in
     let s = c.in-Some.ensures.steps in
     let gives = sym c.if-gives_row.true ∙ rw (c.front.ensures, s.1) at c.gives_row.ensures in
-    let w = written_same _ _ _ _ _ _ (rows_write v c.args.of n ls l _ (sym c.loop-i.invariant.2 ∙ s.0) gives) c.loop-i.invariant.3 in
+    let w = written_same (rows_write v c.args.of n ls l _ (sym c.loop-i.invariant.2 ∙ s.0) gives) c.loop-i.invariant.3 in
     let r = written_room _ _ _ _ (all_at v l.cells) _ c.requires (omega arith) w in
     (search rules, (search rules, rw (length-all_at v l.cells) at r.1))
 
@@ -34,7 +34,7 @@ overflow_add-at c =
     let l = line_of c.in-Some.line in
     let s = c.in-Some.ensures.steps in
     let gives = sym c.if-gives_row.true ∙ rw (c.front.ensures, s.1) at c.gives_row.ensures in
-    let w = written_same _ _ _ _ _ _ (rows_write v c.args.of n ls l _ (sym c.loop-i.invariant.2 ∙ s.0) gives) c.loop-i.invariant.3 in
+    let w = written_same (rows_write v c.args.of n ls l _ (sym c.loop-i.invariant.2 ∙ s.0) gives) c.loop-i.invariant.3 in
     let r = written_room _ _ _ _ (all_at v l.cells) _ c.requires (omega arith) w in
     omega (arith, r.0, length-all_at v l.cells, c.width-at.ensures)
 
@@ -47,11 +47,11 @@ loop-i-preserved-then-gives_row c =
     let s = c.in-Some.ensures.steps in
     let next = sym c.loop-i.invariant.2 ∙ s.0 in
     let gives = sym c.if-gives_row.true ∙ rw (c.front.ensures, s.1) at c.gives_row.ensures in
-    let w = written_same _ _ _ _ _ _ (rows_write v c.args.of n ls l _ next gives) c.loop-i.invariant.3 in
+    let w = written_same (rows_write v c.args.of n ls l _ next gives) c.loop-i.invariant.3 in
     let row : List ℕ = all_at v l.cells in
     let part = take (length c.loop-i.room - c.loop-i.at) (drop c.loop-i.at c.loop-i.room) in
     let more = written_more _ _ _ _ row c.row_under.new.out c.loop-i.at c.width-at.result _ c.requires (omega arith) w (c.width-at.ensures ∙ sym (length-all_at v l.cells)) refl
-        (c.row_under.ensures ∙ ap (λ (k : ℕ). row ++ drop k part) (sym c.width-at.ensures)) in
+    (c.row_under.ensures ∙ ap (λ (k : ℕ). row ++ drop k part) (sym c.width-at.ensures)) in
     (search rules, search rules, rw s.2 (next-dropped n ls l _ next), rw s.2 more)
 
 pub loop-i-preserved : goal.loop-i-preserved
@@ -63,16 +63,11 @@ loop-i-preserved c =
     let s = c.in-Some.ensures.steps in
     let next = sym c.loop-i.invariant.2 ∙ s.0 in
     let gives = sym c.if-gives_row.false ∙ rw (c.front.ensures, s.1) at c.gives_row.ensures in
-    (search rules, search rules, rw s.2 (next-dropped n ls l _ next), rw s.2 (written_same _ _ _ _ _ _ (rows-skip v c.args.of n ls l _ next gives) c.loop-i.invariant.3))
+    (search rules, search rules, rw s.2 (next-dropped n ls l _ next), rw s.2 (written_same (rows-skip v c.args.of n ls l _ next gives) c.loop-i.invariant.3))
 
-pub returns-clause-count : goal.returns-clause-count
+pub returns : goal.returns
 unfolding cells_out
-returns-clause-count c =
+returns c =
     let e = rows_end (value_in c.args.self.now.values.now) c.args.of c.loop-i.i-iterator.count (lines_of c.args.self.now.lines) (sym c.loop-i.invariant.2 ∙ c.in-None.ensures.steps.0.0) in
-    (written_all _ _ _ _ (written_same _ _ _ _ _ _ (ap cells_out e) c.loop-i.invariant.3)).0
-
-pub returns-clause-written : goal.returns-clause-written
-unfolding cells_out
-returns-clause-written c =
-    let e = rows_end (value_in c.args.self.now.values.now) c.args.of c.loop-i.i-iterator.count (lines_of c.args.self.now.lines) (sym c.loop-i.invariant.2 ∙ c.in-None.ensures.steps.0.0) in
-    (written_all _ _ _ _ (written_same _ _ _ _ _ _ (ap cells_out e) c.loop-i.invariant.3)).1
+    let a = written_all _ _ _ _ (written_same (ap cells_out e) c.loop-i.invariant.3) in
+    record { count = a.0; written = a.1 }

@@ -1,7 +1,5 @@
-use Rattle.std.proofs.Common.{rules, arith, drop, take, length, ◌≡◌, ◌≤◌, ◌∙◌, refl}
-use Rattle.std.proofs.lemmas.List.{take_all, length-drop}
-use Rattle.question.specs.Layout.{question_in, lines_fit, lines_in}
-use Rattle.question.proofs.Decoding.{length-lines_in}
+use Rattle.std.proofs.Common.{rules, arith, ◌∙◌, refl}
+use Rattle.question.specs.Layout.{question_in}
 use Rattle.question.proofs.Parted.{lent_lines}
 use Rattle.question.proofs.lent.Question.lines.Goals as goal
 

@@ -1,7 +1,5 @@
-use Rattle.std.proofs.Common.{rules, arith, drop, take, length, ◌≡◌, ◌≤◌, ◌∙◌, refl}
-use Rattle.std.proofs.lemmas.List.{take_all, length-drop}
-use Rattle.question.specs.Layout.{question_in, terms_fit, terms_in}
-use Rattle.question.proofs.Decoding.{length-terms_in}
+use Rattle.std.proofs.Common.{rules, arith, ◌∙◌, refl}
+use Rattle.question.specs.Layout.{question_in}
 use Rattle.question.proofs.Parted.{lent_row}
 use Rattle.question.proofs.lent.Question.row.Goals as goal
 

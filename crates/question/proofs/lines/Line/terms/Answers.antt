@@ -1,6 +1,5 @@
-use Rattle.std.proofs.Common.{rules, arith, ◌≡◌, ◌∙◌, ◌*◌, ◌≤◌, true, length, take, drop, refl, sym}
+use Rattle.std.proofs.Common.{rules, arith, ◌≡◌, ◌∙◌, length, take, drop, refl}
 use Rattle.std.proofs.lemmas.List.{length-drop, length-take-le}
-use Rattle.question.specs.Layout.{terms_fit}
 use Rattle.question.proofs.Decoding.{terms_in-take, length-terms_in}
 use Rattle.question.proofs.Fitting.{line_fits-cells, terms_fit-take}
 use Rattle.question.proofs.lines.Line.terms.Goals as goal

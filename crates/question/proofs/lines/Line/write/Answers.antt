@@ -1,7 +1,5 @@
-use Rattle.std.proofs.Common.{rules, ◌≡◌, ◌≤◌, length, drop, take, set, ◌∙◌, refl, arith}
-use Rattle.std.proofs.lemmas.List.{length-drop, length-set, length-take-le}
+use Rattle.std.proofs.Common.{rules, ◌∙◌, refl}
 use Rattle.question.specs.Layout.{line_out}
-use Rattle.question.specs.Lent.{line_of}
 use Rattle.question.proofs.Chunks.{line_few}
 use Rattle.question.proofs.Writing.{two_and-room}
 use Rattle.question.proofs.lines.Line.write.Goals as goal

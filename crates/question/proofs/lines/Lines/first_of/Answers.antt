@@ -1,4 +1,3 @@
-use Rattle.std.proofs.Common.{rules}
 use Rattle.question.proofs.Chunks.{lines-cut}
 use Rattle.question.proofs.lines.Lines.first_of.Goals as goal
 

@@ -1,4 +1,4 @@
-use Rattle.std.proofs.Common.{◌≡◌, ◌∙◌, map, take, sym, ap}
+use Rattle.std.proofs.Common.{◌∙◌, map, take, sym, ap}
 use Rattle.std.proofs.lemmas.List.{take_min, take-map}
 use Rattle.question.specs.Layout.{line_in, ten_fit}
 use Rattle.question.proofs.Chunks.{all-front}

@@ -1,4 +1,4 @@
-use Rattle.std.proofs.Common.{rules, ◌≡◌, ◌∙◌, ◌+◌, ◌-◌, ◌*◌, ◌∷◌, ◌≤◌, length, take, drop, refl, sym, arith}
+use Rattle.std.proofs.Common.{rules, ◌≡◌, ◌∙◌, ◌+◌, ◌-◌, ◌*◌, ◌∷◌, length, drop, refl, sym, arith}
 use Rattle.std.proofs.lemmas.List.{take_all}
 use Rattle.question.specs.Layout.{lines_out}
 use Rattle.question.specs.Lent.{line_of, lines_of}

@@ -1,4 +1,3 @@
-use Rattle.std.proofs.Common.{rules}
 use Rattle.question.proofs.Chunks.{terms-cut}
 use Rattle.question.proofs.terms.Terms.first_of.Goals as goal
 

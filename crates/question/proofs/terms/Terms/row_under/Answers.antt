@@ -1,4 +1,4 @@
-use Rattle.std.proofs.Common.{rules, ◌≡◌, ◌∙◌, ◌+◌, ◌∷◌, ◌≤◌, length, drop, refl, sym, arith}
+use Rattle.std.proofs.Common.{rules, ◌≡◌, ◌∙◌, ◌+◌, ◌∷◌, length, drop, refl, sym, arith}
 use Rattle.std.proofs.lemmas.List.{take_all}
 use Rattle.question.specs.Question.{all_at}
 use Rattle.question.specs.Layout.{value_in}

@@ -1,4 +1,4 @@
-use Rattle.std.proofs.Common.{rules, ◌≡◌, ◌-◌, ◌*◌, ◌≤◌, length, ◌∙◌, ap, refl, arith}
+use Rattle.std.proofs.Common.{rules, ◌≡◌, ◌-◌, ◌*◌, length, ◌∙◌, ap, arith}
 use Rattle.question.specs.Layout.{terms_out, padded}
 use Rattle.question.specs.Lent.{terms_of}
 use Rattle.question.proofs.Chunks.{pairs-flat}

@@ -33,15 +33,15 @@ impl<'q, 'r> Test for WillDo<'q, 'r> {
 }
 
 // Writes the question over the first of the fewest of the uses that will do to the front of out, and counts them; none if none will do.
-fn write_fewest(test: WillDo<'_, '_>, uses: &Uses, out: &mut [u64]) -> Option<u64>
-    requires wide { lines_kept uses.now ≡ (widest (reports_of test.reports) (question_of test.question)).lines }
+fn write_fewest(test: &WillDo<'_, '_>, uses: &Uses, out: &mut [u64]) -> Option<u64>
+    requires wide { lines_kept uses.now ≡ (widest (reports_of test.now.reports) (question_of test.now.question)).lines }
     requires room { 50 ≤ length out.old }
-    ensures told { result ≡ option_map (λ p. length p.lines) (find (reports_of test.reports) 16 16 (question_of test.question)) }
-    ensures written { out.new ≡ left_by (find (reports_of test.reports) 16 16 (question_of test.question)) out.old }
+    ensures told { result ≡ option_map (λ p. length p.lines) (find (reports_of test.now.reports) 16 16 (question_of test.now.question)) }
+    ensures written { out.new ≡ left_by (find (reports_of test.now.reports) 16 16 (question_of test.now.question)) out.old }
 {
     let question = test.question;
     let candidates = Candidates {
-        test,
+        test: *test,
         lines: uses.lines(),
     };
     let chosen = candidates.first_of_sizes(question.lines().count_left())?;
@@ -61,7 +61,7 @@ fn found(question: &[u64], reports: &[u64], out: &mut [u64]) -> Result<Option<u6
         return Err(Refusal::NoRoomForQuestion(out.len() as u64));
     }
     let uses = widest(&question, &reports)?;
-    Ok(write_fewest(WillDo { question, reports }, &uses, out))
+    Ok(write_fewest(&WillDo { question, reports }, &uses, out))
 }
 
 // Finds the fewest uses of the reports that answer the question, and of those the first, and writes the question over the reports that they make.

@@ -11,6 +11,7 @@ pub enum Reply {
 }
 
 impl From<Result<Option<u64>, Refusal>> for Reply {
+    ghost use Rattle.std.specs.Prelude.{◌≡◌};
     ghost use Rattle.rewriting.specs.Answer.{reply_of};
 
     ghost from_gives = { λ found reply. reply ≡ reply_of found };

@@ -8,7 +8,7 @@ use Rattle.answer.proofs.copies.Copier.copy.Goals as goal
 
 pub offset_bounds-row-column : goal.offset_bounds-row-column
 offset_bounds-row-column c =
-    let few = line_few 16 c.args.self.now.line.numbers.now c.args.self.now.line.fits in
+    let few = c.args.self.now.few in
     let fits = c.args.self.now.fits in
     let at = fits.1 c.loop-c.c (omega (arith, fits.0)) in
     let is = get_or-map (λ c. c.place) c.args.self.now.columns.now c.loop-c.c no_column 0 (omega arith) in
@@ -23,12 +23,12 @@ bounds-row-column c =
 
 pub bounds-copy-c : goal.bounds-copy-c
 bounds-copy-c c =
-    let few = line_few 16 c.args.self.now.line.numbers.now c.args.self.now.line.fits in
+    let few = c.args.self.now.few in
     omega (arith, few, c.args.self.now.fits.0)
 
 pub loop-c-preserved : goal.loop-c-preserved
 loop-c-preserved c =
-    let few = line_few 16 c.args.self.now.line.numbers.now c.args.self.now.line.fits in
+    let few = c.args.self.now.few in
     let inv = c.loop-c.invariant in
     let n : c.loop-c.c < 4 = omega (arith, few, c.args.self.now.fits.0) in
     let x = get_or c.args.row.now (get_or c.args.self.now.columns.now c.loop-c.c no_column).place 0 in

@@ -5,7 +5,7 @@ ghost use Rattle.question.specs.Lent.{line_of, question_of};
 ghost use Rattle.answer.specs.Plan.{no_line};
 ghost use Rattle.answer.specs.Columns.{order_of, orders_of};
 ghost use Rattle.answer.specs.Lent.{base_of};
-ghost use Rattle.answer.specs.Taking.{OrderWithin, FitsLine, one_number, takes, copy_row, copies_of, all_copies};
+ghost use Rattle.answer.specs.Taking.{OrderWithin, FitsLine, one_number, takes, copy_cell, copy_row, copies_of, all_copies};
 
 use super::columns::{Column, PlannedLine};
 use super::tables::{Table, Tables};
@@ -75,16 +75,29 @@ struct Copier<'a> {
 impl<'a> Copier<'a> {
     ghost use Rattle.answer.specs.Lent.{held_by};
 
+    // The c-th cell of a row's copy, and 0 behind the last.
+    fn copy_cell(&self, row: &[u64], c: usize) -> u64
+        requires { length row.now ≡ length self.now.terms.now }
+        ensures { result ≡ copy_cell (order_of self.now.columns.now) row.now c }
+    {
+        match self.columns.get(c) {
+            Some(&Column { place, .. }) => row[place],
+            None => 0,
+        }
+    }
+
     // The copy of a row.
     fn copy(&self, row: &[u64]) -> Row
         requires { length row.now ≡ length self.now.terms.now }
         ensures { result ≡ copy_row self.now.id (order_of self.now.columns.now) row.now }
     {
-        let mut copy = [self.id, 0, 0, 0, 0];
-        for (c, column) in self.columns.iter().enumerate() {
-            copy[c + 1] = row[column.place];
-        }
-        copy
+        [
+            self.id,
+            self.copy_cell(row, 0),
+            self.copy_cell(row, 1),
+            self.copy_cell(row, 2),
+            self.copy_cell(row, 3),
+        ]
     }
 
     // Puts copies of the table's rows that the line takes behind the others.

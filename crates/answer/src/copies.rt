@@ -138,6 +138,7 @@ pub(crate) fn copy_tables(
 {
     let mut rows = Vec::new(heap);
     for (i, line) in question.lines().enumerate() {
+        // The line's number is its place in the plan.
         let terms = read_terms(heap, &line)?;
         let copier = Copier {
             id: i as u64,

@@ -32,7 +32,7 @@ less-at (x ∷ xs) (y ∷ ys) zero s l = smaller x y (slice_cmp nat_cmp xs ys) (
 less-at (x ∷ xs) (y ∷ ys) (suc p) s l =
     equal x y (slice_cmp nat_cmp xs ys) (nat_cmp x y) (ranks x y) (s 0 (omega arith)) ∙ less-at xs ys p (λ i h. s (suc i) (omega arith)) l
 
-less-by : (n : ℕ) (xs ys : List ℕ) → Before n (cells xs) (cells ys) → is_lt (slice_cmp nat_cmp xs ys) ≡ true
+pub less-by : (n : ℕ) (xs ys : List ℕ) → Before n (cells xs) (cells ys) → is_lt (slice_cmp nat_cmp xs ys) ≡ true
 less-by n xs ys b = less-at xs ys b.place b.same b.less
 
 later-place : (n x y : ℕ) (xs ys : List ℕ) → x ≡ y → Before n (cells xs) (cells ys) → Before (suc n) (cells (x ∷ xs)) (cells (y ∷ ys))

@@ -8,6 +8,6 @@ mod search;
 mod slots;
 
 pub use asking::{Join, Setting};
-pub use output::NoRoomAfter;
 pub use order::{Row, lower, put_in_order};
+pub use output::NoRoomAfter;
 pub use slots::{SlotLine, Values, names, row_under};

@@ -13,8 +13,7 @@ pub struct NoRoomAfter(pub usize);
 // Numbers have 64 bits, which a slice of arrays does not tell of its numbers.
 fn all_small(numbers: &[u64])
     ensures { (p : ℕ) → slice_index numbers.now p < 2 ^ 64 }
-{
-}
+{}
 
 // One row behind those that stand.
 fn put_row(out: &mut [u64], at: usize, row: &[usize], env: &Values)

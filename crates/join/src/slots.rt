@@ -13,7 +13,7 @@ pub type SlotLine = [usize; 5];
 // The values of the slots, of which there are no more than 24.
 pub type Values = [u64; 24];
 
-// The row of a line's slots.
+// The row of a line's slots. Written out: a closure for `map` is no shorter, and asks for the bound of each slot.
 pub fn row_under(line: &SlotLine, env: &Values) -> Row
     requires { SlotsBelow 24 line.now }
     ensures { result ≡ under line.now env.now }
@@ -69,6 +69,7 @@ impl Join<'_> {
     {
         let key = row_under(line, env);
         let row = self.rows.get(lower(self.rows, &key))?;
+        // The index is needed: the line, the row and the key are read at it.
         for c in 0..5 {
             let s = line[c];
             if s > k {

@@ -1,4 +1,4 @@
-use Rattle.std.proofs.Common.{rules, arith, ap, ◌∙◌, sym, eqb}
+use Rattle.std.proofs.Common.{◌∙◌, sym}
 use Rattle.answer.proofs.Takings.{takes_no_term, takes_no_cell}
 use Rattle.answer.proofs.copies.takes.Goals as goal
 

@@ -1,4 +1,4 @@
-use Rattle.std.proofs.Common.{arith, get_or, length, ◌≡◌, ◌<◌, ap, sym, ◌∙◌}
+use Rattle.std.proofs.Common.{arith, get_or, ap, sym, ◌∙◌}
 use Rattle.std.proofs.lemmas.List.{get_or-map}
 use Rattle.answer.proofs.Ordered.{no_column}
 use Rattle.answer.proofs.Copying.{copied-cell, copied_zero}

@@ -1,5 +1,4 @@
 use Rattle.std.proofs.Common.{rules, ◌∙◌, ap, sym, refl, append_assoc, append-nil}
-use Rattle.question.specs.Lent.{line_of}
 use Rattle.answer.specs.Columns.{order_of}
 use Rattle.answer.specs.Lent.{tables_of}
 use Rattle.answer.proofs.Copying.{copies-append, named_rows, rows-listed, table-named, table_other, no-copies}

@@ -1,5 +1,4 @@
 use Rattle.std.proofs.Common.{rules, ◌∙◌, sym, append_assoc, append-nil}
-use Rattle.question.specs.Lent.{line_of}
 use Rattle.answer.specs.Columns.{order_of}
 use Rattle.answer.proofs.Takings.{takes-wide}
 use Rattle.answer.proofs.Copying.{row-taken, row-left, no-copies}

@@ -1,5 +1,4 @@
 use Rattle.std.proofs.Common.{◌≡◌, ◌++◌, vec_items}
-use Rattle.question.specs.Lent.{line_of}
 use Rattle.answer.specs.Columns.{order_of}
 use Rattle.answer.specs.Lent.{rows_of}
 use Rattle.answer.specs.Taking.{copies_of}

@@ -39,6 +39,6 @@ returns-in_err-x t c =
     let still : StillPassing c.args.k c.loop-y.x c.args.after c.filter-still.result = grind (arith, nat_tests, c.filter-still.ensures) in
     let next = past s.rows.now s.lines.now s.setting.now.shown c.args.k c.args.env.now c.args.after c.loop-y.x (omega (arith, s.setting.now.few)) c.filter-still.result still c.loop-y.invariant c.in_default.ensures in
     rw c.from_residual-in_err-x.ensures (λ v w. ∥∥₁_elim s.covered (λ x. absurd x) (λ covered.
-        let named : HasSlot s.lines.now c.args.k = elim (cases_lt c.args.k s.setting.now.shown) [ inl g ↦ covered c.args.k (omega arith) g | inr g ↦ c.if-spare.ensures.no refl g ] in
-        let small = value_small s.rows.now s.lines.now c.args.k v c.requires.small named w.stand in
-        c.in_err-x.ensures (omega (arith, small, next.low v w))))
+    let named : HasSlot s.lines.now c.args.k = elim (cases_lt c.args.k s.setting.now.shown) [ inl g ↦ covered c.args.k (omega arith) g | inr g ↦ c.if-spare.ensures.no refl g ] in
+    let small = value_small s.rows.now s.lines.now c.args.k v c.requires.small named w.stand in
+    c.in_err-x.ensures (omega (arith, small, next.low v w))))

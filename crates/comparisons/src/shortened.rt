@@ -1,15 +1,15 @@
 // The least question that says the same.
 use super::draft::{line, row, x};
 use super::pairs::fourth;
-use minimization::{Least, least};
+use minimization::least;
 use std::io;
 
 // What is said of a question, and the tables and terms of the lines that are left.
 fn show(rt: &HostRuntime, name: &str, question: &[u64], size: usize) -> io::Result<()> {
     let mut all = [7; 52];
     match least(question, &mut all[..size.min(52)]) {
-        Least::Refused(refusal) => println!(rt; "{name}: {refusal}"),
-        Least::Lines(count) => {
+        Err(refusal) => println!(rt; "{name}: {refusal}"),
+        Ok(count) => {
             print!(rt; "{name}: {count} lines,")?;
             for number in all {
                 print!(rt; " {number}")?;

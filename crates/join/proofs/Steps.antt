@@ -3,7 +3,7 @@ use Rattle.std.proofs.Common.{◌≡◌, ℕ, ◌+◌, ◌^◌, ◌<◌, ◌≤�
 use Rattle.std.proofs.lemmas.Bool.{cases_lt}
 use Rattle.std.proofs.lemmas.Bool.Decides.{nat_tests}
 use Rattle.join.specs.Order.{Value, Before, cells, row_at}
-use Rattle.join.specs.Slots.{Agree, Blank, Bound, AllStand, Stands, SlotsBelow, slot}
+use Rattle.join.specs.Slots.{Agree, Blank, AllStand, Stands, SlotsBelow, slot}
 use Rattle.join.specs.FirstValues.{Wanted, FirstValues, HasSlot, AllBelow, Small, Passing}
 use Rattle.join.proofs.Bounds.{line_of, all-stand}
 
@@ -163,15 +163,6 @@ module _ (rows lines : List (List ℕ)) (shown k : ℕ) (env : List ℕ) (after 
   )
 
   module _ (x : ℕ) (room : k < length env) where
-    pub bounded : (y : ℕ) → Bound rows lines k (set env k x) (Some y) → From rows lines shown k env after x → x ≤ y → From rows lines shown k env after y
-    bounded y b f h = record {
-      reached = reach_more k x y after h f.reached;
-      low = λ v w. b.1 v (here-agree env k x room v w.agree) (omega (arith, here-at env k x room, f.low v w)) w.stand;
-    }
-
-    pub no_bound : Bound rows lines k (set env k x) None → From rows lines shown k env after x → (v : Value) → Wanted rows lines shown k env (later shown after) v → ⊥
-    no_bound b f v w = b v (here-agree env k x room v w.agree) (omega (arith, here-at env k x room, f.low v w)) w.stand
-
     module _ (still : Option (Bor (List ℕ))) (s : StillPassing k x after still) (f : From rows lines shown k env after x) where
       wanted-more : (v : Value) → Wanted rows lines shown k env (later shown after) v → v k ≡ x → Wanted rows lines shown (k + 1) (set env k x) (later shown still) v
       wanted-more v w e = record { agree = here-more env k x room v w.agree e; stand = w.stand; late = late_more shown k x after still s v w.late }

@@ -27,7 +27,6 @@ lines_lent xs e =
 
 -- the parts behind the first number, which hold the row, and behind the tenth, which hold the lines
 pub record LentRow (xs ys : List ℕ) : Type 0 where
-  pub long : 50 ≤ length xs
   pub whole : ys ≡ drop 1 xs
   pub room : 2 * get_or xs 0 0 ≤ length ys
   pub fit : terms_fit 16 (get_or xs 0 0) ys ≡ true
@@ -38,10 +37,9 @@ unfolding question_in
 lent_row xs e =
     let p = checked xs e in
     let w : take (length xs - 1) (drop 1 xs) ≡ drop 1 xs = take_all _ _ (omega (arith, length-drop 1 xs)) in
-    rw w (record { long = p.long; whole = refl; room = omega (arith, p.long, p.narrow, length-drop 1 xs); fit = p.row; few = rw (length-terms_in (get_or xs 0 0) (drop 1 xs)) p.narrow })
+    rw w (record { whole = refl; room = omega (arith, p.long, p.narrow, length-drop 1 xs); fit = p.row; few = rw (length-terms_in (get_or xs 0 0) (drop 1 xs)) p.narrow })
 
 pub record LentLines (xs ys : List ℕ) : Type 0 where
-  pub long : 50 ≤ length xs
   pub whole : ys ≡ drop 10 xs
   pub room : 10 * get_or xs 9 0 ≤ length ys
   pub fit : lines_fit 16 (get_or xs 9 0) ys ≡ true
@@ -52,4 +50,4 @@ unfolding question_in
 lent_lines xs e =
     let p = checked xs e in
     let w : take (length xs - 10) (drop 10 xs) ≡ drop 10 xs = take_all _ _ (omega (arith, length-drop 10 xs)) in
-    rw w (record { long = p.long; whole = refl; room = omega (arith, p.long, p.few, length-drop 10 xs); fit = p.lines; few = rw (length-lines_in (get_or xs 9 0) (drop 10 xs)) p.few })
+    rw w (record { whole = refl; room = omega (arith, p.long, p.few, length-drop 10 xs); fit = p.lines; few = rw (length-lines_in (get_or xs 9 0) (drop 10 xs)) p.few })

@@ -8,7 +8,7 @@ ghost use Rattle.question.specs.Check.{line_agrees, least_fault, row_good, fault
 use super::fits::{line_fits, terms_fit};
 use super::lines::Lines;
 use super::refusals::Refusal;
-use super::terms::{Term, Terms};
+use super::terms::Terms;
 
 // Whether none of the lines has the table with another width.
 fn agrees(lines: &[[u64; 10]], table: u64, width: u64) -> bool
@@ -53,7 +53,7 @@ fn row_good(question: &[u64]) -> bool
         return false;
     }
     let lines = Lines::<16>::first_of(&question[10..], count);
-    lines.have_all(&Terms::<16>::first_of(row, width))
+    lines.have_all(&Terms::first_of(row, width))
 }
 
 // Where fifty numbers are no question.

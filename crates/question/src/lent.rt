@@ -39,6 +39,7 @@ impl<'a> Question<'a> {
     }
 
     // The terms of its row.
+    #[tactic(auto, using(crate::proofs::Parted::long))]
     pub fn row(&self) -> Terms<'a, 16>
         ensures row { terms_of result ≡ (question_of self.now).row }
         ensures few { length (question_of self.now).row ≤ 4 }
@@ -48,6 +49,7 @@ impl<'a> Question<'a> {
     }
 
     // Its lines.
+    #[tactic(auto, using(crate::proofs::Parted::long))]
     pub fn lines(&self) -> Lines<'a, 16>
         ensures lines { lines_of result ≡ (question_of self.now).lines }
         ensures few { length (question_of self.now).lines ≤ 4 }

@@ -158,7 +158,7 @@ impl<'a, const LIMIT: usize> Lines<'a, LIMIT> {
     }
 
     // Whether every variable among the terms stands in one of them.
-    pub(crate) fn have_all<const OTHER: usize>(&self, terms: &Terms<'_, OTHER>) -> bool
+    pub(crate) fn have_all(&self, terms: &Terms<'_, LIMIT>) -> bool
         ensures { result ≡ all_in (vars (terms_of terms.now)) (line_vars (lines_of self.now)) }
     {
         for term in *terms {

@@ -2,6 +2,7 @@
 ghost use Rattle.std.specs.Prelude.{◌≡◌, Some};
 ghost use Rattle.question.specs.declared.refusals.Refusal.TheVariants.{NoMemory};
 ghost use Rattle.question.specs.Refusals.{number, place, refusal_line};
+ghost use Rattle.question.specs.declared.refusals.Refusal.TheVariants.{NoMemory};
 
 use std::alloc::AllocError;
 use std::fmt;

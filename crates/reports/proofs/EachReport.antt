@@ -1,5 +1,5 @@
 -- The uses of all reports, one report after another.
-use Rattle.std.proofs.Common.{◌≡◌, ℕ, suc, ◌+◌, ◌<◌, ◌≤◌, true, List, [], ◌∷◌, map, length, ap, ◌∙◌, add-one, arith}
+use Rattle.std.proofs.Common.{◌≡◌, ℕ, suc, ◌+◌, ◌<◌, List, [], ◌∷◌, map, length, ap, ◌∙◌, add-one, arith}
 use Rattle.question.specs.Question.{Line, Question}
 use Rattle.containment.specs.Search.{nothing}
 use Rattle.reports.specs.Widest.{use_of, all_readings, all_uses, widest}

@@ -1,6 +1,5 @@
 -- Lines put in one after another where they belong: there are never fewer, and the order in which they are put in does not matter.
-use Rattle.std.proofs.Common.{◌≡◌, ℕ, ◌+◌, ◌<◌, ◌≤◌, Bool, true, false, cond, List, [], ◌∷◌, ◌++◌, length, get_or, take, drop, sym, refl, ap, ◌∙◌, arith}
-use Rattle.std.proofs.lemmas.List.{append_assoc, take-append-drop, take_more, drop_more, drop_all, length-append, length-drop, length-take-le}
+use Rattle.std.proofs.Common.{◌≡◌, ◌≤◌, Bool, true, false, cond, List, [], ◌∷◌, ◌++◌, length, refl, arith}
 use Rattle.question.specs.Question.{Line, In}
 use Rattle.question.proofs.Places.{in_head}
 use Rattle.reports.specs.Widest.{line_less, insert_line, sort_lines, Sorted}

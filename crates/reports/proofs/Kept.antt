@@ -1,5 +1,5 @@
 -- Uses as they are kept: the order of written lines is the order of lines, and where a search says that a line belongs is where it is put in.
-use Rattle.std.proofs.Common.{◌≡◌, ℕ, zero, suc, ◌+◌, ◌-◌, ◌*◌, ◌<◌, ◌≤◌, Bool, true, false, cond, List, [], ◌∷◌, ◌++◌, map, length, get_or, take, drop, replicate, ◌⊎◌, Result, Ok, Err, MatchResult, sym, refl, ap, ◌∙◌, subst, ap₂, inl, inr, eq-eqb, arith, tests}
+use Rattle.std.proofs.Common.{◌≡◌, ℕ, zero, suc, ◌-◌, ◌*◌, ◌<◌, ◌≤◌, true, false, List, [], ◌∷◌, ◌++◌, map, length, get_or, take, drop, replicate, ◌⊎◌, Result, Ok, Err, MatchResult, sym, refl, ap, ◌∙◌, subst, ap₂, inl, inr, eq-eqb, arith, tests}
 use Rattle.std.specs.declared.cmp.Ordering.{Ordering}
 use Rattle.std.specs.declared.cmp.Ordering.TheVariants.{Less, Equal, Greater}
 use Rattle.std.specs.Ordering.{ordering_then, ordering_reverse, ordering_index, nat_cmp, is_lt}
@@ -25,7 +25,7 @@ use Rattle.question.proofs.Writing.{length-terms_out}
 use Rattle.containment.specs.Order.{nums_less, Rising}
 use Rattle.reports.specs.Widest.{line_nums, line_less, insert_line, Sorted}
 use Rattle.reports.specs.Order.{written_cmp, line_cmp}
-use Rattle.reports.proofs.Ordering.{line_irr, line_trans, line_same}
+use Rattle.reports.proofs.Ordering.{line_same}
 use Rattle.reports.proofs.Sorting.{insert_sorted}
 
 -- the order that the library compares by is the order of lines
@@ -92,10 +92,10 @@ order_of l m o e = o.antisymm m l ∙ ap ordering_reverse e
 
 line_total : IsTotalOrder line_cmp
 line_total = record {
-      antisymm = λ l m. nat_list_cmp_total.antisymm (line_nums l) (line_nums m);
-      trans = λ l m k. nat_list_cmp_total.trans (line_nums l) (line_nums m) (line_nums k);
-      congr = λ l m k. nat_list_cmp_total.congr (line_nums l) (line_nums m) (line_nums k);
-    }
+  antisymm = λ l m. nat_list_cmp_total.antisymm (line_nums l) (line_nums m);
+  trans = λ l m k. nat_list_cmp_total.trans (line_nums l) (line_nums m) (line_nums k);
+  congr = λ l m k. nat_list_cmp_total.congr (line_nums l) (line_nums m) (line_nums k);
+}
 
 cmp-self : (l : Line) → line_cmp l l ≡ Equal
 cmp-self l = same-Equal (line_nums l)

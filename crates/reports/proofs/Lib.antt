@@ -18,5 +18,4 @@ pub mod Putting
 pub mod Under
 pub mod Written
 pub mod EachReport
-pub mod Rows
 pub mod Kept

@@ -1,17 +1,17 @@
 -- Lent reports in parts of fifty numbers: when they are cut short, and the least part at fault.
-use Rattle.std.proofs.Common.{◌≡◌, ℕ, zero, suc, ◌+◌, ◌-◌, ◌*◌, ◌/◌, ◌<◌, ◌≤◌, true, false, cond, List, [], ◌∷◌, map, ◌⊎◌, length, get_or, take, drop, Some, None, sym, refl, ap, ◌∙◌, ap₂, inl, inr, arith}
+use Rattle.std.proofs.Common.{◌≡◌, ℕ, zero, suc, ◌+◌, ◌-◌, ◌*◌, ◌/◌, ◌<◌, ◌≤◌, true, false, cond, List, [], ◌∷◌, map, ◌⊎◌, length, get_or, take, drop, Some, None, sym, refl, ap, ◌∙◌, inl, inr, arith}
 use Rattle.std.specs.List.{list_all}
 use Rattle.std.specs.Simd.{first_chunks}
 use Rattle.std.proofs.lemmas.Bool.Decides.{nat_tests}
 use Rattle.std.proofs.lemmas.Bool.{and_parts, and_from}
-use Rattle.std.proofs.lemmas.List.{drop-drop, drop_more}
+use Rattle.std.proofs.lemmas.List.{drop-drop, drop_more, length-drop}
 use Rattle.question.specs.declared.refusals.Refusal.TheVariants.{CutShort}
 use Rattle.question.specs.Question.{Line, Question}
 use Rattle.question.specs.Layout.{question_in}
 use Rattle.question.specs.Check.{question_refusal}
 use Rattle.question.specs.Reports.{questions_in, reports_in}
 use Rattle.question.proofs.Accepted.{allowed}
-use Rattle.question.proofs.Chunks.{all-chunks}
+use Rattle.question.proofs.Chunks.{all-chunks, length-chunks}
 use Rattle.reports.specs.Reports.{all_sound}
 use Rattle.reports.proofs.Lent.{none_from}
 use Rattle.reports.specs.Check.{same_widths, is_question, report_part, report_parts, part_good, parts_fault, agrees_before, report_good, report_fault, reports_short}
@@ -47,10 +47,6 @@ pub all-parts : (n : ℕ) (reports rest numbers : List ℕ) (parts : List (List 
 unfolding report_parts
 all-parts n reports rest numbers parts e h f p =
     p ∙ ap (λ (xs : List ℕ). first_chunks 50 (length xs / 50) xs) f ∙ all-chunks 50 n rest (omega arith) h ∙ ap (λ (xs : List ℕ). first_chunks 50 (get_or xs 0 0) (drop 1 xs)) (sym e)
-
-length-chunks : (k n : ℕ) (xs : List ℕ) → length (first_chunks k n xs) ≡ n
-length-chunks k zero xs = refl
-length-chunks k (suc n) xs = ap suc (length-chunks k n (drop k xs))
 
 pub length-parts : (reports : List ℕ) → length (report_parts reports) ≡ get_or reports 0 0
 unfolding report_parts
@@ -129,3 +125,26 @@ parts-sound [] e = refl
 parts-sound (p ∷ ps) e =
     let a = and_parts (is_question p) (list_all is_question ps) e in
     and_from _ _ (allowed p (none_from (question_refusal p) a.0)).is_sound (parts-sound ps a.1)
+
+-- the first reports, where each is a question
+chunks-checked : (n : ℕ) (xs : List ℕ) → ((i : ℕ) → i < n → question_refusal (take 50 (drop (50 * i) xs)) ≡ None) → list_all is_question (first_chunks 50 n xs) ≡ true
+chunks-checked zero xs f = refl
+chunks-checked (suc n) xs f =
+    let a : is_question (take 50 xs) ≡ true = rw (f 0 (omega arith)) refl in
+    and_from _ _ a (chunks-checked n (drop 50 xs) (λ i h. let d : 50 + 50 * i ≡ 50 * suc i = omega arith in rw (drop-drop (50 * i) 50 xs, d) (f (suc i) (omega arith))))
+
+pub record Lent (n : ℕ) (numbers : List ℕ) (parts : List (List ℕ)) : Type 0 where
+  pub checked : list_all is_question parts ≡ true
+  pub count : length parts ≡ n
+  pub are : map question_in parts ≡ questions_in n (drop 1 numbers)
+
+pub chunks_lent : (n : ℕ) (numbers xs : List ℕ) (parts : List (List ℕ)) → ((i : ℕ) → i < n → question_refusal (take 50 (drop (1 + 50 * i) numbers)) ≡ None) → 1 + 50 * n ≤ length numbers → xs ≡ take (50 * n) (drop 1 numbers)
+    → parts ≡ first_chunks 50 (length xs / 50) xs → Lent n numbers parts
+chunks_lent n numbers xs parts f h e p =
+    let l : 50 * n ≤ length (drop 1 numbers) = omega (arith, length-drop 1 numbers) in
+    let is : parts ≡ first_chunks 50 n (drop 1 numbers) = p ∙ ap (λ (ys : List ℕ). first_chunks 50 (length ys / 50) ys) e ∙ all-chunks 50 n (drop 1 numbers) (omega arith) l in
+    record {
+      checked = rw is (chunks-checked n (drop 1 numbers) (λ i b. rw (drop-drop (50 * i) 1 numbers) (f i b)));
+      count = ap length is ∙ length-chunks 50 n (drop 1 numbers);
+      are = ap (map question_in) is ∙ questions-chunks n (drop 1 numbers);
+    }

@@ -1,10 +1,9 @@
 -- What the tests of a report say turn by turn: the next term, line or report, the one that stops, and the end.
-use Rattle.std.proofs.Common.{◌≡◌, ℕ, true, false, cond, ◌&&◌, eqb, List, [], ◌∷◌, length, ap, ◌∙◌, refl, arith}
-use Rattle.std.specs.List.{list_all}
+use Rattle.std.proofs.Common.{◌≡◌, ℕ, true, false, cond, eqb, List, [], ◌∷◌, length, ap, ◌∙◌, arith}
 use Rattle.std.proofs.lemmas.Bool.Decides.{nat_tests}
 use Rattle.question.specs.declared.terms.Term.{Term}
 use Rattle.question.specs.declared.terms.Term.TheVariants.{Number, Variable}
-use Rattle.question.specs.Question.{Line, Question}
+use Rattle.question.specs.Question.{Line}
 use Rattle.question.specs.Sound.{has, vars}
 use Rattle.reports.specs.Check.{different, same_width, same_widths}
 

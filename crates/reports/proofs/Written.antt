@@ -1,11 +1,11 @@
 -- The lines of uses, one use after another: the next use, one that names no report, and the end.
-use Rattle.std.proofs.Common.{◌≡◌, ℕ, suc, ◌+◌, ◌*◌, ◌≤◌, List, [], ◌∷◌, ◌++◌, length, get_or, sym, refl, ap, ◌∙◌, arith}
+use Rattle.std.proofs.Common.{◌≡◌, ℕ, ◌+◌, ◌*◌, ◌≤◌, List, [], ◌∷◌, ◌++◌, length, get_or, arith}
 use Rattle.std.proofs.lemmas.List.{append_assoc, append-nil, get_or_past}
 use Rattle.question.specs.declared.terms.Term.{Term}
 use Rattle.question.specs.Question.{Line, Question}
 use Rattle.containment.specs.Reading.{line_put, put_lines}
 use Rattle.reports.specs.Reports.{no_question}
-use Rattle.reports.specs.Expand.{row_put, use_put, use_lines, expand_lines}
+use Rattle.reports.specs.Expand.{row_put, use_lines, expand_lines}
 
 -- the next line of a report
 pub lines-more : (h : ℕ → Term) (done new : List Line) (ls ms : List Line) (l : Line) → ls ≡ l ∷ ms → new ≡ done ++ line_put h l ∷ [] → new ++ put_lines h ms ≡ done ++ put_lines h ls

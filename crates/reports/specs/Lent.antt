@@ -1,5 +1,5 @@
 -- What the parts of lent reports are, and how a use puts the variables of its report. Assumes nothing: these are definitions.
-use Rattle.std.specs.Prelude.{ℕ, List, map}
+use Rattle.std.specs.Prelude.{List, map}
 use Rattle.question.specs.Question.{Line, Question}
 use Rattle.question.specs.Layout.{line_in, question_in}
 use Rattle.reports.specs.declared.checked.Reports.{Reports}

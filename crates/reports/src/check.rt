@@ -1,5 +1,5 @@
 // Whether lent reports may be used beside a question, and which of them not.
-ghost use Rattle.std.specs.Prelude.{◌≡◌, ◌+◌, ◌*◌, ◌≤◌, ◌&&◌, length, None, Some, MatchOption, MatchResult, OnOk};
+ghost use Rattle.std.specs.Prelude.{◌≡◌, ◌*◌, ◌≤◌, ◌&&◌, length, None, Some, MatchOption, MatchResult, OnOk};
 ghost use Rattle.std.specs.Option.{option_map};
 ghost use Rattle.question.specs.declared.refusals.Refusal.TheVariants.{CutShort, NoReport};
 ghost use Rattle.std.specs.List.{list_all};
@@ -92,7 +92,10 @@ fn lent_parts(reports: &[u64]) -> Option<&[[u64; 50]]>
 }
 
 // The reports, or the first that is at fault.
-fn without_fault<'a>(question: &Question<'_>, parts: &'a [[u64; 50]]) -> Result<Reports<'a>, Refusal>
+fn without_fault<'a>(
+    question: &Question<'_>,
+    parts: &'a [[u64; 50]],
+) -> Result<Reports<'a>, Refusal>
     requires { length parts.now ≤ 8 }
     ensures { MatchResult result
         (λ rs. (parts_fault (question_of question.now).lines parts.now (length parts.now) 0 ≡ None) × (rs.left.now ≡ parts.now))

@@ -14,7 +14,9 @@ pub struct Reports<'a> {
 }
 
 impl<'a> Reports<'a> {
-    ghost use Rattle.std.specs.Prelude.{slice_index_or, ◌<◌};
+    ghost use Rattle.std.specs.Prelude.{ℕ, ◌+◌, ◌*◌, ◌<◌, take, drop, None, slice_index_or};
+    ghost use Rattle.question.specs.Check.{question_refusal};
+    ghost use Rattle.question.specs.Reports.{questions_in};
     ghost use Rattle.question.specs.Lent.{question_of};
     ghost use Rattle.reports.specs.Reports.{no_question};
     ghost use Rattle.reports.specs.Lent.{reports_of};
@@ -25,6 +27,16 @@ impl<'a> Reports<'a> {
         ensures { result.left.now ≡ parts.now }
     {
         Reports { left: parts }
+    }
+
+    // The first n of lent reports, where each of them is known to be a question.
+    pub fn first_of(numbers: &'a [u64], n: usize) -> Reports<'a>
+        requires each { (i : ℕ) → i < n → question_refusal (take 50 (drop (1 + 50 * i) numbers.now)) ≡ None }
+        requires lent { (n ≤ 8) × (1 + 50 * n ≤ length numbers.now) }
+        ensures { reports_of result ≡ questions_in n (drop 1 numbers.now) }
+    {
+        let (parts, _) = numbers[1..1 + 50 * n].as_chunks();
+        Reports::of_parts(parts)
     }
 
     // How many there are.

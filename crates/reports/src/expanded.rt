@@ -41,7 +41,6 @@ impl Expanded {
     pub fn lines(&self) -> Lines<'_, 256>
         ensures { lines_of result ≡ expanded_lines self.now }
     {
-        let lines = self.lines.as_slice();
-        Lines::first_of(lines.as_flattened(), lines.len())
+        Lines::over(self.lines.as_slice())
     }
 }

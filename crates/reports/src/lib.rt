@@ -13,6 +13,7 @@ mod uses;
 mod wide;
 
 pub use check::check_reports;
+pub use checked::Reports;
 pub use expand::expand_uses;
 pub use expanded::Expanded;
 pub use laws::{
@@ -20,6 +21,5 @@ pub use laws::{
     same_reports_for_the_same, still_right_with_more, the_widest_decides, too_wide_is_exact,
     widest_is_made,
 };
-pub use checked::Reports;
 pub use uses::Uses;
 pub use wide::widest;

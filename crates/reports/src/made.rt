@@ -1,5 +1,5 @@
 // Readings of a report into the lines of a question, and the uses that they make.
-ghost use Rattle.std.specs.Prelude.{◌≡◌, ℕ, true};
+ghost use Rattle.std.specs.Prelude.{◌≡◌, true};
 ghost use Rattle.std.specs.List.{list_all};
 ghost use Rattle.containment.specs.Search.{nothing, match_line, filling};
 ghost use Rattle.containment.specs.Coding.{part_of};

@@ -38,6 +38,7 @@ pub(crate) fn line_put<P: Put>(by: &P, table: u64, terms: Terms<'_, 16>) -> [u64
     let mut line = [0; 10];
     line[0] = table;
     line[1] = terms.count_left() as u64;
+    // Kept: the places are counted, since a zip with what is written is not proved yet.
     for (i, term) in terms.enumerate() {
         let (kind, number) = by.term(term).numbers();
         line[2 + 2 * i] = kind;

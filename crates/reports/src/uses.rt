@@ -38,8 +38,7 @@ impl Uses {
     pub fn lines(&self) -> Lines<'_, 16>
         ensures { lines_of result ≡ lines_kept self.now }
     {
-        let lines = self.lines.as_slice();
-        Lines::first_of(lines.as_flattened(), lines.len())
+        Lines::over(self.lines.as_slice())
     }
 
     // Puts one more where it belongs, unless it is one of them.
@@ -48,7 +47,10 @@ impl Uses {
         requires written { line_out (line_in line) ≡ line }
         ensures { Keeps result self.new (insert_line (line_in line) (lines_kept self.old)) }
     {
-        let search = self.lines.as_slice().binary_search_by(|other| order(other, &line));
+        let search = self
+            .lines
+            .as_slice()
+            .binary_search_by(|other| order(other, &line));
         match search {
             Ok(_) => Ok(()),
             Err(place) => self

@@ -13,18 +13,18 @@ use super::put::line_put;
 use super::uses::Uses;
 use question::{Lines, Question, Refusal};
 
-// A report, its number, and the question whose lines it is read into.
+// The readings of a report into the lines of a question; the number is the report's.
 #[derive(Clone, Copy)]
-struct Asked<'r, 'q> {
+struct Readings<'r, 'q> {
     number: u64,
     report: Question<'r>,
     question: Question<'q>,
     ghost small: { number < 4294967296 },
 }
 
-impl<'r, 'q> Asked<'r, 'q> {
+impl<'r, 'q> Readings<'r, 'q> {
     // Keeps the uses that the report has by all readings past the one given that put these lines, the last of the report's, as lines of the question.
-    fn keep_readings(
+    fn keep_uses(
         &self,
         lines: Lines<'_, 16>,
         reading: &OwnReading,
@@ -40,7 +40,7 @@ impl<'r, 'q> Asked<'r, 'q> {
             let Some(more) = reading.put_line(&from, &to) else {
                 continue;
             };
-            self.keep_readings(left, &more, uses)?;
+            self.keep_uses(left, &more, uses)?;
         }
         Ok(())
     }
@@ -58,12 +58,12 @@ pub fn widest(question: &Question<'_>, reports: &Reports<'_>) -> Result<Uses, Re
     let mut uses = Uses::none();
     let reports = *reports;
     for (t, report) in reports.enumerate() {
-        let asked = Asked {
+        let readings = Readings {
             number: t as u64,
             report,
             question: *question,
         };
-        asked.keep_readings(report.lines(), &OwnReading::nothing(), &mut uses)?;
+        readings.keep_uses(report.lines(), &OwnReading::nothing(), &mut uses)?;
     }
     Ok(uses)
 }

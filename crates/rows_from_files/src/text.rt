@@ -7,7 +7,6 @@ ghost use Rattle.named_files.specs.Forms.{lent_numbers};
 ghost use Rattle.rows_from_files.specs.Printed.{refusal_text, standing, answer_text, Printed, PrintedFor};
 
 use super::rooms::{Answered, answer_in_room};
-use answer::Answer;
 use named_files::{Numbered, lend};
 use question::Refusal;
 use std::alloc::{AllocError, Global};
@@ -35,13 +34,12 @@ fn refusal_text(heap: Global, refusal: Refusal) -> Result<String, AllocError>
 }
 
 // How many rows stand in the room.
-fn standing(answer: Answer) -> usize
+fn standing(answer: Result<u64, Refusal>) -> usize
     ensures { result ≡ standing answer }
 {
     match answer {
-        Answer::Rows(count) => count as usize,
-        Answer::Refused(Refusal::NoRoomForRow(count)) => count as usize,
-        Answer::Refused(_) => 0,
+        Ok(count) | Err(Refusal::NoRoomForRow(count)) => count as usize,
+        Err(_) => 0,
     }
 }
 
@@ -50,7 +48,7 @@ fn answered_text(heap: Global, columns: usize, answered: &Answered) -> Result<St
     ensures { IfOk result (λ text. string_bytes text ≡ answer_text columns answered.now.out.items answered.now.answer) }
 {
     let mut text = rows_text(heap, columns, standing(answered.answer), &answered.out)?;
-    if let Answer::Refused(refusal) = answered.answer {
+    if let Err(refusal) = answered.answer {
         text.push_str(&refusal_text(heap, refusal)?)?;
     }
     Ok(text)

@@ -1,6 +1,6 @@
 // Calls of `answer` with a room of 7s beside what is expected: what is told, every number of the rows, and every number behind them.
 use super::shown::Numbers;
-use answer::{Answer, answer};
+use answer::answer;
 use question::Refusal;
 use std::alloc::{AllocError, Global};
 use std::fmt;
@@ -17,10 +17,7 @@ pub struct Call<'a> {
 
 impl Call<'_> {
     pub fn told(&self, heap: Global, room: &mut [u64]) -> Told {
-        match answer(heap, self.question, self.tables, room) {
-            Answer::Rows(count) => Ok(count),
-            Answer::Refused(refusal) => Err(refusal),
-        }
+        answer(heap, self.question, self.tables, room)
     }
 
     // Whether the call tells that, and leaves the numbers at the front of a room of that size.

@@ -6,8 +6,7 @@ use super::draw::Shape;
 use super::plain::{Line, Plain};
 use super::reading::{count_maps, reads, terms_of};
 use super::shown::Numbers;
-use minimization::{Least, least};
-use question::Refusal;
+use minimization::least;
 use std::alloc::{AllocError, Global};
 use std::io;
 
@@ -47,14 +46,6 @@ fn will_do(heap: Global, question: &Plain, lines: &[Line]) -> Result<bool, Alloc
     Ok(is_sound(heap, &part)? && reads(heap, question, &part)? && reads(heap, &part, question)?)
 }
 
-// How many lines least says that are left.
-fn lines_left(question: &[u64], out: &mut [u64]) -> Result<u64, Refusal> {
-    match least(question, out) {
-        Least::Lines(count) => Ok(count),
-        Least::Refused(refusal) => Err(refusal),
-    }
-}
-
 impl Tally {
     // One question more, unless it would take too long.
     fn try_question(&mut self, rt: &HostRuntime, question: &Plain, soil: u64) -> io::Result<()> {
@@ -67,7 +58,7 @@ impl Tally {
         let found = smallest(heap, lines, |part| will_do(heap, question, part))?;
         let fewest = part_of(question, found.lines.unwrap_or(Vec::new(heap)))?;
         let mut out = [7; 52];
-        let left = lines_left(&question.lent(soil), &mut out);
+        let left = least(&question.lent(soil), &mut out);
         let lost = lines.len().saturating_sub(fewest.lines.len());
         if let Some(count) = self.lost.get_mut(lost) {
             count.add(1);

@@ -1,4 +1,4 @@
-use Rattle.std.proofs.Common.{◌-◌, ◌*◌, ap, ◌∙◌, take, ◌≡◌, length, arith}
+use Rattle.std.proofs.Common.{◌-◌, ◌*◌, ◌∙◌, ◌≡◌, arith}
 use Rattle.reports.proofs.Parts.{short_empty, short_many, short_cut, not-short, all-parts}
 use Rattle.reports.proofs.check.lent_parts.Goals as goal
 

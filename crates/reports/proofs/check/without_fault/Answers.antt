@@ -1,5 +1,4 @@
-use Rattle.std.proofs.Common.{◌≡◌, ◌+◌, true, false, length, take, sym, ap, ◌∙◌, rules, arith}
-use Rattle.std.specs.List.{list_all}
+use Rattle.std.proofs.Common.{◌≡◌, true, false, sym, ap, ◌∙◌, arith}
 use Rattle.std.specs.Option.{option_map}
 use Rattle.std.proofs.lemmas.Bool.{and_from}
 use Rattle.std.proofs.lemmas.List.Folds.{list_all_more}
@@ -18,8 +17,7 @@ returns-then-not-report_good c =
 pub loop-i-preserved : goal.loop-i-preserved
 loop-i-preserved c =
     let ls = (question_of c.args.question.now).lines in
-    let good : part_good ls c.args.parts.now c.loop-i.i ≡ true = sym (c.report_good.ensures ∙ rw c.of_parts-before.ensures) ∙ c.if-not-report_good.false in
-    (
+    let good : part_good ls c.args.parts.now c.loop-i.i ≡ true = sym (c.report_good.ensures ∙ rw c.of_parts-before.ensures) ∙ c.if-not-report_good.false in (
       list_all_more is_question c.args.parts.now c.loop-i.i _ c.loop-i-test.true ∙ and_from _ _ c.loop-i.invariant.0 (good_checked ls c.args.parts.now c.loop-i.i good),
       sym (part-next ls c.args.parts.now c.loop-i.i c.loop-i-test.true good) ∙ c.loop-i.invariant.1,
     )

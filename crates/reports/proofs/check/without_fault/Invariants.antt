@@ -1,4 +1,4 @@
-use Rattle.std.proofs.Common.{◌≡◌, ◌-◌, ◌≤◌, true, length, take}
+use Rattle.std.proofs.Common.{◌≡◌, ◌-◌, true, length, take}
 use Rattle.std.specs.List.{list_all}
 use Rattle.question.specs.Lent.{question_of}
 use Rattle.reports.specs.Check.{is_question, parts_fault}

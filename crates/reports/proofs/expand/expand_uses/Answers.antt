@@ -1,4 +1,4 @@
-use Rattle.std.proofs.Common.{rules, ◌≡◌, ◌+◌, ◌*◌, ◌≤◌, ◌++◌, length, get_or, ap, ◌∙◌, arith, length-append}
+use Rattle.std.proofs.Common.{rules, ◌≡◌, ◌+◌, ◌*◌, ◌++◌, length, get_or, ap, ◌∙◌, arith, length-append}
 use Rattle.question.specs.Lent.{line_of, lines_of, question_of}
 use Rattle.question.proofs.Accepted.{allowed}
 use Rattle.containment.specs.Reading.{put_lines}

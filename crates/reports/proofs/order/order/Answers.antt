@@ -1,4 +1,4 @@
-use Rattle.std.proofs.Common.{◌≡◌, ◌∙◌, take, drop, length, refl, arith}
+use Rattle.std.proofs.Common.{◌≡◌, ◌∙◌, take, drop, arith}
 use Rattle.std.proofs.lemmas.List.{take_all, length-drop}
 use Rattle.reports.proofs.order.order.Goals as goal
 

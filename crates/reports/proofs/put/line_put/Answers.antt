@@ -1,4 +1,4 @@
-use Rattle.std.proofs.Common.{rules, ◌≡◌, ◌+◌, ◌*◌, ◌≤◌, [], ◌∷◌, length, take, drop, replicate, refl, sym, ap, ◌∙◌, arith}
+use Rattle.std.proofs.Common.{rules, ◌≡◌, ◌+◌, [], ◌∷◌, length, drop, replicate, refl, sym, ap, ◌∙◌, arith}
 use Rattle.question.specs.declared.terms.Term.{Term}
 use Rattle.question.specs.Layout.{terms_out}
 use Rattle.question.specs.Lent.{terms_of}
@@ -6,7 +6,8 @@ use Rattle.question.proofs.Within.{next_within}
 use Rattle.question.proofs.Coming.{next-dropped, next-below, none-left}
 use Rattle.question.proofs.Writing.{length-line_out}
 use Rattle.containment.specs.Reading.{put, all_put}
-use Rattle.reports.proofs.Filling.{length-all_put, use_more, use_whole}
+use Rattle.containment.proofs.Readings.{length-put}
+use Rattle.reports.proofs.Filling.{use_more, use_whole}
 use Rattle.reports.proofs.put.line_put.Goals as goal
 
 pub loop-i-init : goal.loop-i-init
@@ -39,4 +40,4 @@ returns g c =
     let n = c.loop-i.i-iterator.count in
     let end : n ≡ length ts = omega (arith, none-left n ts (sym c.loop-i.invariant.3 ∙ c.in-None.ensures.steps.0.0), c.loop-i.invariant.2) in
     let made = c.loop-i.invariant.4 ∙ use_whole c.args.table (length ts) n h ts refl c.requires end in
-    record { put = made; ten = ap length made ∙ length-line_out _ (rw (length-all_put h ts) c.requires) }
+    record { put = made; ten = ap length made ∙ length-line_out _ (rw (length-put h ts) c.requires) }

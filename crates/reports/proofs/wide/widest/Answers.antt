@@ -1,11 +1,11 @@
-use Rattle.std.proofs.Common.{rules, ◌≡◌, ◌+◌, ◌<◌, ◌≤◌, List, map, length, sym, ap, ◌∙◌, subst, arith}
+use Rattle.std.proofs.Common.{rules, ◌≡◌, ◌<◌, ◌≤◌, List, map, length, sym, ap, ◌∙◌, subst, arith}
 use Rattle.std.proofs.lemmas.Result.{err_from_is_err_and}
 use Rattle.std.proofs.lemmas.List.{length-map}
 use Rattle.question.specs.Question.{Line}
 use Rattle.question.specs.Layout.{line_in, question_in}
 use Rattle.question.specs.Lent.{question_of}
-use Rattle.containment.specs.Search.{Part, nothing}
-use Rattle.reports.specs.Widest.{use_of, all_readings, all_uses, widest}
+use Rattle.containment.specs.Search.{nothing}
+use Rattle.reports.specs.Widest.{use_of, all_readings, widest}
 use Rattle.reports.specs.Uses.{lines_kept, insert_all}
 use Rattle.reports.specs.Lent.{reports_of}
 use Rattle.reports.proofs.Sorting.{too_wide, not_too_wide}
@@ -20,17 +20,17 @@ loop-t-init c =
     let n : length rs ≤ 8 = rw (length-map c.args.reports.now.left.now question_in) c.args.reports.now.few in
     (search rules, search rules, rw (e, c.enumerate-t-items.ensures.count, c.enumerate-t-items.ensures.source) (omega (arith, n)), rw (e, c.enumerate-t-items.ensures.count, c.enumerate-t-items.ensures.source) (uses-none rs (question_of c.args.question.now) (lines_kept c.none-uses.result) c.none-uses.ensures))
 
-pub returns-in_err-keep_readings : goal.returns-in_err-keep_readings
-returns-in_err-keep_readings c =
+pub returns-in_err-keep_uses : goal.returns-in_err-keep_uses
+returns-in_err-keep_uses c =
     let rs = reports_of c.args.reports.now in
     let q = question_of c.args.question.now in
     let r = question_of c.in-Some.report in
     let s = c.in-Some.ensures.steps in
     let p = err_from_is_err_and c.from_residual.result c.from_residual.ensures.1 in
     let n = c.loop-t.t-iterator.count in
-    let h : 32 < length (insert_all (map (use_of n r) (all_readings r.lines q.lines nothing)) (lines_kept c.loop-t.uses)) = rw (s.1, c.lines.ensures.lines, c.nothing.ensures) at c.in_err-keep_readings.ensures.1 in
+    let h : 32 < length (insert_all (map (use_of n r) (all_readings r.lines q.lines nothing)) (lines_kept c.loop-t.uses)) = rw (s.1, c.lines.ensures.lines, c.nothing.ensures) at c.in_err-keep_uses.ensures.1 in
     let w : 32 < length (widest rs q).lines = subst (λ (ls : List Line). 32 < length ls) c.loop-t.invariant.3 (uses-over (reports_of c.loop-t.t-iterator.iter) (reports_of c.next.new.self.iter) q r (lines_kept c.loop-t.uses) n s.0 h) in
-    rw (p.1, p.2) (record { told = (c.in_err-keep_readings.ensures.0, w); meant = too_wide rs q (parts-sound c.args.reports.now.left.now c.args.reports.now.checked) w })
+    rw (p.1, p.2) (record { told = (c.in_err-keep_uses.ensures.0, w); meant = too_wide rs q (parts-sound c.args.reports.now.left.now c.args.reports.now.checked) w })
 
 pub loop-t-preserved : goal.loop-t-preserved
 loop-t-preserved c =
@@ -38,7 +38,7 @@ loop-t-preserved c =
     let r = question_of c.in-Some.report in
     let s = c.in-Some.ensures.steps in
     let n = c.loop-t.t-iterator.count in
-    let k : lines_kept c.keep_readings.new.uses ≡ insert_all (map (use_of n r) (all_readings r.lines q.lines nothing)) (lines_kept c.loop-t.uses) = c.in_ok-keep_readings.ensures ∙ rw (s.1, c.lines.ensures.lines, c.nothing.ensures) in
+    let k : lines_kept c.keep_uses.new.uses ≡ insert_all (map (use_of n r) (all_readings r.lines q.lines nothing)) (lines_kept c.loop-t.uses) = c.in_ok-keep_uses.ensures ∙ rw (s.1, c.lines.ensures.lines, c.nothing.ensures) in
     let e = uses-more (reports_of c.loop-t.t-iterator.iter) (reports_of c.next.new.self.iter) q r (lines_kept c.loop-t.uses) n s.0 in
     (search rules, search rules, rw s.2 (omega (arith, ap length s.0, c.loop-t.invariant.2)), rw (s.2, k) (sym e ∙ c.loop-t.invariant.3))
 

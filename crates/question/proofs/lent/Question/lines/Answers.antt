@@ -1,16 +1,7 @@
-use Rattle.std.proofs.Common.{rules, arith, ◌∙◌, refl}
+use Rattle.std.proofs.Common.{arith, ◌∙◌, refl}
 use Rattle.question.specs.Layout.{question_in}
 use Rattle.question.proofs.Parted.{lent_lines}
 use Rattle.question.proofs.lent.Question.lines.Goals as goal
-
-pub slice_bounds-first_of-count : goal.slice_bounds-first_of-count
-slice_bounds-first_of-count c = omega (arith, (lent_lines _ c.args.self.now.asked).long)
-
-pub slice_bounds-first_of-start : goal.slice_bounds-first_of-start
-slice_bounds-first_of-start c = let l = (lent_lines _ c.args.self.now.asked).long in search (rules, l)
-
-pub bounds-numbers-9 : goal.bounds-numbers-9
-bounds-numbers-9 c = let l = (lent_lines _ c.args.self.now.asked).long in search (rules, l)
 
 pub first_of-requires : goal.first_of-requires
 first_of-requires c =

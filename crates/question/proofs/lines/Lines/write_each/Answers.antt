@@ -1,9 +1,8 @@
-use Rattle.std.proofs.Common.{rules, ◌≡◌, ◌∙◌, ◌+◌, ◌-◌, ◌*◌, ◌∷◌, length, drop, refl, sym, arith}
-use Rattle.std.proofs.lemmas.List.{take_all}
+use Rattle.std.proofs.Common.{rules, ◌≡◌, ◌∙◌, ◌+◌, ◌-◌, ◌*◌, ◌∷◌, drop, refl, sym, arith}
 use Rattle.question.specs.Layout.{lines_out}
 use Rattle.question.specs.Lent.{line_of, lines_of}
 use Rattle.question.proofs.Chunks.{line_few}
-use Rattle.question.proofs.Coming.{next-dropped, next-below, none-left}
+use Rattle.question.proofs.Coming.{next-dropped, next-below}
 use Rattle.question.proofs.Writing.{line-more}
 use Rattle.question.proofs.lines.Lines.write_each.Goals as goal
 
@@ -26,10 +25,3 @@ loop-i-preserved g c =
     let few = line_few g.row.LIMIT c.in-Some.line.numbers.now c.in-Some.line.fits in
     let more = line-more n (10 * n + 10 - 10 * n) ls l c.args.out.now c.loop-i.out below whole few (omega arith) (c.loop-i.invariant.4, c.loop-i.invariant.5) in
     (search rules, search rules, rw s.2 (omega (arith, below)), rw s.2 rest, rw s.2 more.0, rw (s.2, s.1, c.write.ensures) more.1)
-
-pub returns : goal.returns
-returns g c =
-    let ls = lines_of c.args.self.now in
-    let n = c.loop-i.i-iterator.count in
-    let end : n ≡ length ls = omega (arith, none-left n ls (sym c.loop-i.invariant.3 ∙ c.in-None.ensures.steps.0.0), c.loop-i.invariant.2) in
-    c.loop-i.invariant.5 ∙ rw (end, take_all (length ls) ls (omega arith)) refl

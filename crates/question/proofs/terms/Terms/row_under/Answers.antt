@@ -1,11 +1,10 @@
-use Rattle.std.proofs.Common.{rules, ◌≡◌, ◌∙◌, ◌+◌, ◌∷◌, length, drop, refl, sym, arith}
-use Rattle.std.proofs.lemmas.List.{take_all}
+use Rattle.std.proofs.Common.{rules, ◌≡◌, ◌∙◌, ◌+◌, ◌∷◌, drop, refl, sym, arith}
 use Rattle.question.specs.Question.{all_at}
 use Rattle.question.specs.Layout.{value_in}
 use Rattle.question.specs.Lent.{terms_of}
 use Rattle.question.proofs.Front.{row_more}
 use Rattle.question.proofs.Within.{next_within}
-use Rattle.question.proofs.Coming.{next-dropped, next-below, none-left}
+use Rattle.question.proofs.Coming.{next-dropped, next-below}
 use Rattle.question.proofs.terms.Terms.row_under.Goals as goal
 
 pub loop-i-init : goal.loop-i-init
@@ -27,10 +26,3 @@ loop-i-preserved g c =
     let below = next-below n ts c.in-Some.term _ next in
     let whole : drop n ts ≡ c.in-Some.term ∷ drop (n + 1) ts = rw (← rest) next in
     (search rules, search rules, rw s.2 (omega (arith, below)), rw s.2 rest, rw (s.2, s.1, c.loop-i.invariant.4, c.under.ensures) (row_more (value_in c.args.values.now) n ts c.in-Some.term c.args.out.now whole below (omega (arith, below, c.requires.room))))
-
-pub returns : goal.returns
-returns g c =
-    let ts = terms_of c.args.self.now in
-    let n = c.loop-i.i-iterator.count in
-    let end : n ≡ length ts = omega (arith, none-left n ts (sym c.loop-i.invariant.3 ∙ c.in-None.ensures.steps.0.0), c.loop-i.invariant.2) in
-    c.loop-i.invariant.4 ∙ rw (end, take_all (length ts) ts (omega arith)) refl

@@ -6,10 +6,10 @@ use Rattle.question.specs.declared.refusals.Refusal.TheVariants.{CutShort, NoRep
 use Rattle.question.specs.Check.{question_refusal}
 use Rattle.question.specs.Layout.{question_in}
 use Rattle.question.specs.Lent.{question_of}
-use Rattle.reports.specs.Check.{report_parts, report_fault, reports_short, reports_refusal}
+use Rattle.reports.specs.Check.{report_fault, reports_short, reports_refusal}
 use Rattle.reports.proofs.Asking.{asked}
 use Rattle.reports.proofs.Admitted.{refused}
-use Rattle.reports.proofs.Parts.{parts-few, length-parts, parts-reports, fault-lent}
+use Rattle.reports.proofs.Parts.{parts-few, parts-reports, fault-lent}
 use Rattle.reports.proofs.checked.Reports.checked.Goals as goal
 
 pub returns-then-question-lt50 : goal.returns-then-question-lt50

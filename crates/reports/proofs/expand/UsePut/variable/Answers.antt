@@ -1,4 +1,4 @@
-use Rattle.std.proofs.Common.{rules, tests, ◌≡◌, ◌+◌, sym, ap, ◌∙◌, inl, inr}
+use Rattle.std.proofs.Common.{rules, tests, ◌≡◌, ◌+◌, sym, ◌∙◌, inl, inr}
 use Rattle.question.specs.declared.terms.Term.TheVariants.{Variable}
 use Rattle.question.specs.Lent.{terms_of}
 use Rattle.reports.specs.Expand.{assign}
@@ -19,12 +19,11 @@ returns-then-eq c =
 pub loop-term-preserved : goal.loop-term-preserved
 loop-term-preserved c =
     let n : c.in-Some.term ≡ Variable c.args.x → ⊥ = λ e. search (rules, tests) in
-    let s = c.in-Some.ensures.steps in
-    (
+    let s = c.in-Some.ensures.steps in (
       (tt, tt),
       tt,
       sym (assign_other c.args.x (terms_of c.loop-term.term-iterator.a) (terms_of c.next.new.self.a) (terms_of c.loop-term.term-iterator.b) (terms_of c.next.new.self.b) c.in-Some.term c.in-Some.cell (Variable (c.args.self.now.base + c.args.x)) s.0 s.1 n)
-      ∙ c.loop-term.invariant.2,
+          ∙ c.loop-term.invariant.2,
     )
 
 pub returns : goal.returns

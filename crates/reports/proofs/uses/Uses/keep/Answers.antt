@@ -1,13 +1,11 @@
-use Rattle.std.proofs.Common.{rules, ◌≡◌, ◌∙◌, ◌≤◌, ◌<◌, ◌+◌, map, length, Ok, Err, Result, sym, ap, subst, arith}
-use Rattle.std.specs.List.{insert, HoldsAt}
+use Rattle.std.proofs.Common.{rules, ◌≡◌, ◌∙◌, ◌≤◌, map, length, Ok, Err, sym, ap, arith}
+use Rattle.std.specs.List.{insert}
 use Rattle.std.specs.List.Sorted.{IsBinarySearchResult}
-use Rattle.std.specs.declared.cmp.Ordering.TheVariants.{Equal}
 use Rattle.std.proofs.lemmas.Fn.{always_returns_same}
 use Rattle.std.proofs.lemmas.Result.{on_ok_weaker, on_err_weaker}
 use Rattle.std.proofs.lemmas.List.{length-map}
 use Rattle.std.proofs.lemmas.List.Edits.{length-insert}
 use Rattle.question.specs.Layout.{line_in}
-use Rattle.reports.specs.Widest.{insert_line}
 use Rattle.reports.specs.Order.{written_cmp}
 use Rattle.reports.proofs.Kept.{AreKept, Written, found, placed, still_kept, tried}
 use Rattle.reports.proofs.uses.Uses.keep.Goals as goal

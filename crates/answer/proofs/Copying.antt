@@ -1,12 +1,13 @@
 -- What the copying puts behind the rows, step by step.
-use Rattle.std.proofs.Common.{◌≡◌, ℕ, zero, suc, ◌+◌, ◌<◌, ◌≤◌, true, false, cond, eqb, ltb, ◌≢◌, List, [], ◌∷◌, ◌++◌, length, get_or, drop, set, inl, inr, sym, refl, ap, ◌∙◌, arith}
+use Rattle.std.proofs.Common.{◌≡◌, ℕ, zero, suc, ◌<◌, true, false, cond, eqb, ltb, List, [], ◌∷◌, ◌++◌, length, get_or, drop, sym, refl, ap, ◌∙◌, arith}
 use Rattle.std.proofs.lemmas.Bool.Decides.{nat_tests}
-use Rattle.std.proofs.lemmas.List.{append_assoc, get_or-set_same, get_or-set_other}
-use Rattle.std.proofs.lemmas.Bool.{cases_lt}
+use Rattle.std.proofs.lemmas.List.{append_assoc, get_or-map}
 use Rattle.question.specs.declared.terms.Term.{Term}
 use Rattle.question.specs.Question.{Row}
 use Rattle.question.specs.Tables.{rows_in, table_size, table_rows}
 use Rattle.answer.specs.Taking.{takes, copy_cell, copy_row, copies_of, first_rows}
+use Rattle.answer.specs.declared.columns.Column.{Column}
+use Rattle.answer.specs.Columns.{order_of}
 use Rattle.answer.specs.Lent.{tables_from}
 
 module _ (id : ℕ) (cols : List ℕ) (ts : List Term) where
@@ -47,33 +48,12 @@ table-named t xs x ys e h = let y : eqb (get_or x 0 0) t ≡ true = grind (arith
 pub table_other : (t : ℕ) (xs : List (List ℕ)) (x : List ℕ) (ys : List (List ℕ)) → xs ≡ x ∷ ys → (get_or x 0 0 ≡ t → ⊥) → named_rows t xs ≡ named_rows t ys
 table_other t xs x ys e h = let y : eqb (get_or x 0 0) t ≡ false = grind (arith, nat_tests) in rw (e, y) refl
 
--- one number more of a copy
-module _ (copy : List ℕ) (c x : ℕ) (f : ℕ → ℕ) (few : c < 4) (long : length copy ≡ 5) where
-  pub cells_more : ((d : ℕ) → d < c → get_or copy (d + 1) 0 ≡ f d) → x ≡ f c → (d : ℕ) → d < c + 1 → get_or (set copy (c + 1) x) (d + 1) 0 ≡ f d
-  cells_more g e d h = elim (cases_lt d c) [
-    | inl a ↦ (let ne : d + 1 ≢ c + 1 = omega arith in rw (get_or-set_other copy (c + 1) (d + 1) x 0 ne) (g d a))
-    | inr a ↦ (let i : d ≡ c = omega arith in let r : c + 1 < length copy = omega arith in rw (i, get_or-set_same copy (c + 1) x 0 r) e)
-  ]
+-- a cell of a copy, by the columns
+module _ (cs : List Column) (r : Row) (wide : length r ≡ length cs) where
+  pub copied-cell : (c : ℕ) (d : Column) → c < length cs → copy_cell (order_of cs) r c ≡ get_or r (get_or cs c d).place 0
+  copied-cell c d h =
+      let t : ltb c (length r) ≡ true = grind (arith, nat_tests) in
+      rw (t, get_or-map (λ (k : Column). k.place) cs c d 0 h) refl
 
-  pub zeros_less : ((d : ℕ) → c ≤ d → d < 4 → get_or copy (d + 1) 0 ≡ 0) → (d : ℕ) → c + 1 ≤ d → d < 4 → get_or (set copy (c + 1) x) (d + 1) 0 ≡ 0
-  zeros_less g d h l = let ne : d + 1 ≢ c + 1 = omega arith in rw (get_or-set_other copy (c + 1) (d + 1) x 0 ne) (g d (omega arith) l)
-
--- five numbers that are a copy
-five_are : (xs : List ℕ) → length xs ≡ 5 → xs ≡ get_or xs 0 0 ∷ get_or xs 1 0 ∷ get_or xs 2 0 ∷ get_or xs 3 0 ∷ get_or xs 4 0 ∷ []
-five_are (a ∷ b ∷ c ∷ d ∷ e ∷ []) h = refl
-five_are [] h = absurd (omega arith)
-five_are (a ∷ []) h = absurd (omega arith)
-five_are (a ∷ b ∷ []) h = absurd (omega arith)
-five_are (a ∷ b ∷ c ∷ []) h = absurd (omega arith)
-five_are (a ∷ b ∷ c ∷ d ∷ []) h = absurd (omega arith)
-five_are (a ∷ b ∷ c ∷ d ∷ e ∷ f ∷ g) h = absurd (omega arith)
-
-pub is_copy : (xs : List ℕ) (id : ℕ) (cols : List ℕ) (r : Row) → length xs ≡ 5 → get_or xs 0 0 ≡ id
-    → ((d : ℕ) → d < length r → get_or xs (d + 1) 0 ≡ get_or r (get_or cols d 0) 0) → ((d : ℕ) → length r ≤ d → d < 4 → get_or xs (d + 1) 0 ≡ 0) → xs ≡ copy_row id cols r
-is_copy xs id cols r long first cells zeros = rw (← cell 0 (omega arith), ← cell 1 (omega arith), ← cell 2 (omega arith), ← cell 3 (omega arith), ← first) (five_are xs long)
-  where
-    cell : (d : ℕ) → d < 4 → get_or xs (d + 1) 0 ≡ copy_cell cols r d
-    cell d h = elim (cases_lt d (length r)) [
-      | inl a ↦ (let t : ltb d (length r) ≡ true = grind (arith, nat_tests) in rw t (cells d a))
-      | inr a ↦ (let t : ltb d (length r) ≡ false = grind (arith, nat_tests) in rw t (zeros d a h))
-    ]
+  pub copied_zero : (c : ℕ) → ltb c (length cs) ≡ false → copy_cell (order_of cs) r c ≡ 0
+  copied_zero c h = rw (wide, h) refl

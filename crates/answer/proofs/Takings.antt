@@ -22,9 +22,10 @@ number_next x m us (Variable y) ts d c r e f g =
     let z : cond (eqb y x) (eqb c m) true ≡ true = grind (arith, nat_tests) in
     rw (e, f, z) refl
 
-pub number_end : (x m : ℕ) (us : List Term) (d : Row) → us ≡ [] → one_number x m us d ≡ true
+pub number_end : (x m : ℕ) (us : List Term) (d : Row) → length us ≡ 0 → one_number x m us d ≡ true
 unfolding one_number
-number_end x m us d e = rw e refl
+number_end x m [] d e = refl
+number_end x m (t ∷ ts) d e = absurd (omega arith)
 
 pub number_no_cell : (x m : ℕ) (us : List Term) (d : Row) → length d ≡ 0 → one_number x m us d ≡ true
 unfolding one_number
@@ -33,9 +34,10 @@ number_no_cell x m (t ∷ ts) [] e = refl
 number_no_cell x m (t ∷ ts) (c ∷ r) e = absurd (omega arith)
 
 -- where the cells or the terms end
-pub takes_no_term : (us : List Term) (d : Row) (c : ℕ) (r : Row) → us ≡ [] → d ≡ c ∷ r → takes us d ≡ false
+pub takes_no_term : (us : List Term) (d : Row) (c : ℕ) (r : Row) → length us ≡ 0 → d ≡ c ∷ r → takes us d ≡ false
 unfolding takes
-takes_no_term us d c r e f = rw (e, f) refl
+takes_no_term [] d c r e f = rw f refl
+takes_no_term (t ∷ ts) d c r e f = absurd (omega arith)
 
 pub takes_no_cell : (us : List Term) (d : Row) → length d ≡ 0 → takes us d ≡ eqb (length us) 0
 unfolding takes

@@ -39,12 +39,11 @@ fn put_rows(heap: Global, plan: &SlotPlan, rows: Vec<Row>, out: &mut [u64]) -> R
     ensures { RowsOut (asked_by (plan_in plan.now) rows.items) out.old out.new result }
 {
     let mut lines = plan.slots(heap)?;
-    let setting = &plan.setting;
-    let left = narrow(heap, rows, &mut lines, setting)?;
+    let left = narrow(heap, rows, &mut lines, &plan.setting)?;
     let join = Join {
         rows: &left,
         lines: &lines,
-        setting,
+        setting: &plan.setting,
     };
     match join.put_out(&plan.row, out) {
         Ok(count) => Ok(count as u64),

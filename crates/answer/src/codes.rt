@@ -8,7 +8,7 @@ use arrayvec::ArrayVec;
 use question::{Lines, Term, Terms};
 
 // Which terms are meant.
-#[derive(Clone, Copy, PartialEq, Eq)]
+#[derive(Clone, Copy)]
 pub(crate) enum Kind {
     Numbers,
     Variables,

@@ -68,6 +68,7 @@ fn line_slots(id: usize, columns: &[Column]) -> SlotLine
     ensures zeros { (c : ℕ) → length columns.now ≤ c → c < 4 → slice_index result (c + 1) ≡ 0 }
 {
     let mut slots = [id, 0, 0, 0, 0];
+    // Each stands one place later, behind the number's.
     for (c, column) in columns.iter().enumerate() {
         slots[c + 1] = column.slot;
     }

@@ -1,24 +1,31 @@
 // The lent tables copied for the lines of a question, all in one list of rows for the join.
 ghost use Rattle.std.specs.Prelude.{◌≡◌, ℕ, ◌<◌, ◌≤◌, ◌&&◌, ◌∷◌, ◌++◌, length, IfOk, OnOk, slice_index_or};
 ghost use Rattle.std.proofs.Props.{props};
-ghost use Rattle.question.specs.Lent.{terms_of, line_of, question_of};
+ghost use Rattle.question.specs.Lent.{line_of, question_of};
 ghost use Rattle.answer.specs.Plan.{no_line};
 ghost use Rattle.answer.specs.Columns.{order_of, orders_of};
 ghost use Rattle.answer.specs.Lent.{base_of};
-ghost use Rattle.answer.specs.Taking.{OrderWithin, FitsLine, one_number, takes, copy_row, copies_of, all_copies};
+ghost use Rattle.answer.specs.Taking.{OrderWithin, FitsLine, one_number, takes, copy_cell, copy_row, copies_of, all_copies};
 
 use super::columns::{Column, PlannedLine};
 use super::tables::{Table, Tables};
 use join::Row;
-use question::{Line, Question, Term, Terms};
+use question::{Line, Question, Term};
 use std::alloc::{AllocError, Global};
 
-// Whether all cells where the terms have the variable x are the number.
-fn one_number(terms: Terms<'_, 16>, cells: &[u64], x: u8, number: u64) -> bool
-    ensures { result ≡ one_number x number (terms_of terms.entry) cells.now }
+// The terms of a line, read once for all rows.
+fn read_terms(heap: Global, line: &Line<'_, 16>) -> Result<Vec<Term>, AllocError>
+    ensures { IfOk result (λ terms. terms.items ≡ (line_of line.now).cells) }
 {
-    for (term, cell) in terms.zip(cells) {
-        if term == Term::Variable(x) && *cell != number {
+    line.terms().collect(heap)
+}
+
+// Whether all cells where the terms have the variable x are the number.
+fn one_number(terms: &[Term], cells: &[u64], x: u8, number: u64) -> bool
+    ensures { result ≡ one_number x number terms.now cells.now }
+{
+    for (term, cell) in terms.iter().zip(cells) {
+        if *term == Term::Variable(x) && *cell != number {
             return false;
         }
     }
@@ -26,63 +33,79 @@ fn one_number(terms: Terms<'_, 16>, cells: &[u64], x: u8, number: u64) -> bool
 }
 
 // Whether the cell may be what the term is, as far as the cells behind it tell.
-fn cell_passes(term: Term, cell: u64, terms: Terms<'_, 16>, behind: &[u64]) -> bool
-    ensures { takes (term ∷ terms_of terms.entry) (cell ∷ behind.now) ≡ (result && takes (terms_of terms.entry) behind.now) }
+fn cell_passes(term: Term, cell: u64, terms: &[Term], cells: &[u64]) -> bool
+    ensures { takes (term ∷ terms.now) (cell ∷ cells.now) ≡ (result && takes terms.now cells.now) }
 {
     match term {
         Term::Number(n) => cell == u64::from(n),
-        Term::Variable(x) => one_number(terms, behind, x, cell),
+        Term::Variable(x) => one_number(terms, cells, x, cell),
     }
 }
 
-// Whether the row may be what the line is under a value.
-fn takes(line: &Line<'_, 16>, row: &[u64]) -> bool
-    ensures { result ≡ takes (line_of line.now).cells row.now }
+// Whether the row may be what the terms are under a value.
+fn takes(terms: &[Term], row: &[u64]) -> bool
+    ensures { result ≡ takes terms.now row.now }
 {
-    let mut terms = line.terms();
+    let mut terms = terms;
     let mut cells = row;
-    while let Some((cell, behind)) = cells.split_first() {
-        let Some(term) = terms.next() else {
+    while let Some((cell, cells_behind)) = cells.split_first() {
+        let Some((term, terms_behind)) = terms.split_first() else {
             return false;
         };
-        if !cell_passes(term, *cell, terms, behind) {
+        if !cell_passes(*term, *cell, terms_behind, cells_behind) {
             return false;
         }
-        cells = behind;
+        terms = terms_behind;
+        cells = cells_behind;
     }
-    terms.count_left() == 0
+    terms.is_empty()
 }
 
-// A line with its number, and its columns in the order of their slots.
+// A line by its number, the table that it names, its terms, and its columns in the order of their slots.
 #[derive(Clone, Copy)]
 struct Copier<'a> {
     id: u64,
-    line: Line<'a, 16>,
+    table: u64,
+    terms: &'a [Term],
     columns: &'a [Column],
-    ghost fits: { FitsLine (line_of line).cells columns.now } by { Prim.hlevel props },
+    ghost few: { length columns.now ≤ 4 },
+    ghost fits: { FitsLine terms.now columns.now } by { Prim.hlevel props },
 }
 
 impl<'a> Copier<'a> {
     ghost use Rattle.answer.specs.Lent.{held_by};
 
+    // The c-th cell of a row's copy, and 0 behind the last.
+    fn copy_cell(&self, row: &[u64], c: usize) -> u64
+        requires { length row.now ≡ length self.now.terms.now }
+        ensures { result ≡ copy_cell (order_of self.now.columns.now) row.now c }
+    {
+        match self.columns.get(c) {
+            Some(&Column { place, .. }) => row[place],
+            None => 0,
+        }
+    }
+
     // The copy of a row.
     fn copy(&self, row: &[u64]) -> Row
-        requires { length row.now ≡ length (line_of self.now.line).cells }
+        requires { length row.now ≡ length self.now.terms.now }
         ensures { result ≡ copy_row self.now.id (order_of self.now.columns.now) row.now }
     {
-        let mut copy = [self.id, 0, 0, 0, 0];
-        for (c, column) in self.columns.iter().enumerate() {
-            copy[c + 1] = row[column.place];
-        }
-        copy
+        [
+            self.id,
+            self.copy_cell(row, 0),
+            self.copy_cell(row, 1),
+            self.copy_cell(row, 2),
+            self.copy_cell(row, 3),
+        ]
     }
 
     // Puts copies of the table's rows that the line takes behind the others.
     fn copy_rows(&self, table: &Table<'_>, rows: &mut Vec<Row>) -> Result<(), AllocError>
-        ensures { OnOk result (rows.new.items ≡ rows.old.items ++ copies_of self.now.id (order_of self.now.columns.now) (line_of self.now.line).cells (held_by table.now)) }
+        ensures { OnOk result (rows.new.items ≡ rows.old.items ++ copies_of self.now.id (order_of self.now.columns.now) self.now.terms.now (held_by table.now)) }
     {
         for row in table.rows() {
-            if takes(&self.line, row) {
+            if takes(self.terms, row) {
                 rows.push(self.copy(row))?;
             }
         }
@@ -91,11 +114,10 @@ impl<'a> Copier<'a> {
 
     // Puts copies of the line's table behind the other rows.
     fn copy_line(&self, tables: Tables<'_>, rows: &mut Vec<Row>) -> Result<(), AllocError>
-        ensures { OnOk result (rows.new.items ≡ rows.old.items ++ copies_of self.now.id (order_of self.now.columns.now) (line_of self.now.line).cells (base_of tables.entry (line_of self.now.line).table)) }
+        ensures { OnOk result (rows.new.items ≡ rows.old.items ++ copies_of self.now.id (order_of self.now.columns.now) self.now.terms.now (base_of tables.entry self.now.table)) }
     {
-        let number = self.line.table();
         for table in tables {
-            if table.number() == number {
+            if table.number() == self.table {
                 self.copy_rows(&table, rows)?;
             }
         }
@@ -116,11 +138,13 @@ pub(crate) fn copy_tables(
 {
     let mut rows = Vec::new(heap);
     for (i, line) in question.lines().enumerate() {
-        let columns = &lines[i].columns;
+        // The line's number is its place in the plan.
+        let terms = read_terms(heap, &line)?;
         let copier = Copier {
             id: i as u64,
-            line,
-            columns,
+            table: line.table(),
+            terms: &terms,
+            columns: &lines[i].columns,
         };
         copier.copy_line(tables, &mut rows)?;
     }

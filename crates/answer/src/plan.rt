@@ -53,6 +53,7 @@ impl SlotPlan {
         ensures { IfOk result (λ lines. lines.items ≡ (plan_in self.now).lines) }
     {
         let mut lines = Vec::with_capacity(heap, self.lines.len())?;
+        // Kept as a loop: with map and collect the proof did not close, since the closure's array stays unknown.
         for line in &self.lines {
             lines.push(line.slots)?;
         }

@@ -6,12 +6,8 @@ mod fits;
 mod laws;
 mod lent;
 mod lines;
-mod parts;
 mod refusals;
-mod rows;
-mod soundness;
 mod terms;
-mod write;
 
 pub use check::check_question;
 pub use laws::{
@@ -20,11 +16,5 @@ pub use laws::{
 };
 pub use lent::Question;
 pub use lines::{Line, Lines};
-pub use parts::{
-    line_at, line_count, line_term, lines_of, nth_line, nth_term, row_term, row_width, table, width,
-};
 pub use refusals::Refusal;
-pub use rows::{line_row, question_row};
-pub use soundness::has_variable;
 pub use terms::{NoTerm, Term, Terms};
-pub use write::write_question;

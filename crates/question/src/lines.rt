@@ -48,7 +48,8 @@ impl<'a, const LIMIT: usize> Line<'a, LIMIT> {
         ensures fits { line_fits LIMIT result.now ≡ true }
         ensures ten { length result.now ≡ 10 }
     {
-        self.numbers
+        let Line { numbers } = *self;
+        numbers
     }
 
     // Writes the row that it is under the values to the front of out.

@@ -63,7 +63,8 @@ pub fn widest(question: &Question<'_>, reports: &Reports<'_>) -> Result<Uses, Re
             report,
             question: *question,
         };
-        readings.keep_uses(report.lines(), &OwnReading::nothing(), &mut uses)?;
+        let lines = report.lines();
+        readings.keep_uses(lines, &OwnReading::nothing(), &mut uses)?;
     }
     Ok(uses)
 }

@@ -19,8 +19,8 @@ loop-i-preserved c =
     let more = all_more (base_of c.args.tables) n (lines_of c.loop-i.i-iterator.iter) (orders_of c.args.lines.now) l _ s.0 in
     let m = c.index-lines-i.result in
     let inside : n < length c.args.lines.now = omega (arith, below, c.requires.many) in
-    let order : order_of c.deref.result.now ≡ get_or (orders_of c.args.lines.now) n [] = ap order_of c.deref.ensures.0 ∙ ap (λ j. order_of (get_or c.args.lines.now j m).columns.items) s.1 ∙ sym (get_or-map (λ k. order_of k.columns.items) c.args.lines.now n m [] inside) in
-    let put = rw (s.1, order) at c.in_ok-copy_line.ensures in
+    let order : order_of c.deref-in-loop-i.result.now ≡ get_or (orders_of c.args.lines.now) n [] = ap order_of c.deref-in-loop-i.ensures.0 ∙ ap (λ j. order_of (get_or c.args.lines.now j m).columns.items) s.1 ∙ sym (get_or-map (λ k. order_of k.columns.items) c.args.lines.now n m [] inside) in
+    let put = rw (s.1, order, c.deref.ensures.value, c.in_ok-terms.ensures, c.table.ensures) at c.in_ok-copy_line.ensures in
     (search rules, search rules, rw s.2 (omega (arith, below)), rw s.2 rest, rw (s.2, put, append_assoc) (rw more at c.loop-i.invariant.4))
 
 pub returns : goal.returns

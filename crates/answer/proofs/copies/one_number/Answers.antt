@@ -7,13 +7,13 @@ use Rattle.answer.proofs.copies.one_number.Goals.{else-eq-via-then-eq+else-cell-
 pub returns-then-cell-number : goal.returns-then-cell-number
 returns-then-cell-number c =
     let s = c.in-Some.ensures.steps in
-    let e : c.in-Some.term ≡ Variable c.args.x = search (rules, tests) in
+    let e : c.in-Some.term.now ≡ Variable c.args.x = search (rules, tests) in
     sym (number_stop c.args.x c.args.number _ _ _ _ _ (rw e at s.0) s.1 c.if-cell-number.true) ∙ c.loop-term.invariant.2
 
 pub loop-term-preserved : goal.loop-term-preserved
 loop-term-preserved c =
     let s = c.in-Some.ensures.steps in
-    let go : c.in-Some.term ≡ Variable c.args.x → c.in-Some.cell.now ≡ c.args.number = λ e. (elim c.else-eq.branch [
+    let go : c.in-Some.term.now ≡ Variable c.args.x → c.in-Some.cell.now ≡ c.args.number = λ e. (elim c.else-eq.branch [
       | else-eq-via-then-eq+else-cell-number w ↦ w.if-cell-number.false
       | else-eq-via-else-eq w ↦ (let h = w.if-eq.false in let i = c.eq.ensures in search (rules, tests))
     ]) in

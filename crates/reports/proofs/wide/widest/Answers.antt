@@ -28,7 +28,7 @@ returns-in_err-keep_uses c =
     let s = c.in-Some.ensures.steps in
     let p = err_from_is_err_and c.from_residual.result c.from_residual.ensures.1 in
     let n = c.loop-t.t-iterator.count in
-    let h : 32 < length (insert_all (map (use_of n r) (all_readings r.lines q.lines nothing)) (lines_kept c.loop-t.uses)) = rw (s.1, c.lines.ensures.lines, c.nothing.ensures) at c.in_err-keep_uses.ensures.1 in
+    let h : 32 < length (insert_all (map (use_of n r) (all_readings r.lines q.lines nothing)) (lines_kept c.loop-t.uses)) = rw (s.1, c.lines-lines.ensures.lines, c.nothing.ensures) at c.in_err-keep_uses.ensures.1 in
     let w : 32 < length (widest rs q).lines = subst (λ (ls : List Line). 32 < length ls) c.loop-t.invariant.3 (uses-over (reports_of c.loop-t.t-iterator.iter) (reports_of c.next.new.self.iter) q r (lines_kept c.loop-t.uses) n s.0 h) in
     rw (p.1, p.2) (record { told = (c.in_err-keep_uses.ensures.0, w); meant = too_wide rs q (parts-sound c.args.reports.now.left.now c.args.reports.now.checked) w })
 
@@ -38,7 +38,7 @@ loop-t-preserved c =
     let r = question_of c.in-Some.report in
     let s = c.in-Some.ensures.steps in
     let n = c.loop-t.t-iterator.count in
-    let k : lines_kept c.keep_uses.new.uses ≡ insert_all (map (use_of n r) (all_readings r.lines q.lines nothing)) (lines_kept c.loop-t.uses) = c.in_ok-keep_uses.ensures ∙ rw (s.1, c.lines.ensures.lines, c.nothing.ensures) in
+    let k : lines_kept c.keep_uses.new.uses ≡ insert_all (map (use_of n r) (all_readings r.lines q.lines nothing)) (lines_kept c.loop-t.uses) = c.in_ok-keep_uses.ensures ∙ rw (s.1, c.lines-lines.ensures.lines, c.nothing.ensures) in
     let e = uses-more (reports_of c.loop-t.t-iterator.iter) (reports_of c.next.new.self.iter) q r (lines_kept c.loop-t.uses) n s.0 in
     (search rules, search rules, rw s.2 (omega (arith, ap length s.0, c.loop-t.invariant.2)), rw (s.2, k) (sym e ∙ c.loop-t.invariant.3))
 

@@ -1,5 +1,4 @@
 use Rattle.std.proofs.Common.{◌≡◌, ◌++◌, vec_items}
-use Rattle.question.specs.Lent.{line_of}
 use Rattle.answer.specs.Columns.{order_of}
 use Rattle.answer.specs.Lent.{rows_of}
 use Rattle.answer.specs.Taking.{copies_of}
@@ -8,5 +7,5 @@ use Rattle.answer.proofs.copies.Copier.copy_rows.Given as goal
 abbrev pub invariant-loop-row : goal.invariant-loop-row
 invariant-loop-row l =
     (goal.iterator-loop-row).can_next l.row-iterator × (goal.iterator-loop-row).is_finite l.row-iterator
-    × (vec_items l.rows ++ copies_of l.self.id (order_of l.self.columns.now) (line_of l.self.line).cells (rows_of l.row-iterator)
-    ≡ vec_items l.initial.rows ++ copies_of l.self.id (order_of l.self.columns.now) (line_of l.self.line).cells (rows_of l.initial.row-iterator))
+    × (vec_items l.rows ++ copies_of l.self.id (order_of l.self.columns.now) l.self.terms.now (rows_of l.row-iterator)
+    ≡ vec_items l.initial.rows ++ copies_of l.self.id (order_of l.self.columns.now) l.self.terms.now (rows_of l.initial.row-iterator))

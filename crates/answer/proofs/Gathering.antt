@@ -8,7 +8,8 @@ use Rattle.question.specs.Sound.{Allowed}
 use Rattle.question.proofs.Members.{in_left, in_right, in_split, in_cases}
 use Rattle.answer.specs.declared.codes.Kind.{Kind}
 use Rattle.answer.specs.declared.codes.Kind.TheVariants.{Numbers, Variables}
-use Rattle.answer.specs.Terms.{code, put_in, all_put_in, codes_of, line_codes}
+use Rattle.question.specs.Layout.{code}
+use Rattle.answer.specs.Terms.{put_in, all_put_in, codes_of, line_codes}
 use Rattle.answer.proofs.Listing.{all_append}
 
 -- the codes of the next term, and of the next line

@@ -6,6 +6,7 @@ use Rattle.question.specs.declared.terms.Term.TheVariants.{Number, Variable}
 use Rattle.question.specs.Question.{Line, Question, In, here, there}
 use Rattle.question.specs.Sound.{Allowed}
 use Rattle.question.proofs.Members.{sound_parts}
+use Rattle.question.specs.Layout.{code}
 use Rattle.answer.specs.declared.codes.Kind.TheVariants.{Numbers, Variables}
 use Rattle.answer.specs.Terms.{first_place, place_in, put_in, all_put_in, codes_of, line_codes}
 use Rattle.answer.proofs.Listing.{Begins, begins-on, begins-length, begins-at, begins-place, Different, one_in, still, all-begin, all-different, all-stand_in, all_new, put-length, put-room, put-longer}
@@ -27,23 +28,23 @@ shown_later place t ts j h s = record { column = suc s.column; narrow = omega (a
 
 all_shown : (ts : List Term) (xs ls : List ℕ) → Begins (all_put_in xs (codes_of Variables ts)) ls → ((n : ℕ) → In (Number n) ts → first_place xs n < length xs)
     → (j : ℕ) → length xs ≤ j → j < length (all_put_in xs (codes_of Variables ts)) → FirstShown (place_in ls) ts j
-unfolding codes_of all_put_in
+unfolding codes_of all_put_in code
 all_shown [] xs ls b f j a h = absurd (omega arith)
 all_shown (Number n ∷ ts) xs ls b f j a h =
     let i : first_place xs n < length xs = f n here in
     let o : Begins xs ls = begins-on xs (all_put_in xs (codes_of Variables ts)) ls (all-begin xs (codes_of Variables ts)) b in
-    let e : first_place ls n ≡ first_place xs n = begins-place xs ls o n i in
-    shown_later (place_in ls) (Number n) ts j (omega arith) (all_shown ts xs ls b (λ m k. f m (there k)) j a h)
+    let e : place_in ls (Number n) ≡ first_place xs n = begins-place xs ls o n i in
+    shown_later (place_in ls) (Number n) ts j (omega (arith, e, i)) (all_shown ts xs ls b (λ m k. f m (there k)) j a h)
 all_shown (Variable x ∷ ts) xs ls b f j a h =
     let v = 4294967296 + x in
     let ys = put_in xs v in
     let o = one_in xs v in
     let p : first_place ys v < length ys = o.stands in
     let s : Begins ys ls = begins-on ys (all_put_in ys (codes_of Variables ts)) ls (all-begin ys (codes_of Variables ts)) b in
-    let e : first_place ls v ≡ first_place ys v = begins-place ys ls s v p in
+    let e : place_in ls (Variable x) ≡ first_place ys v = begins-place ys ls s v p in
     elim (cases_lt j (length ys)) [
       | inl g ↦ record { column = 0; narrow = omega arith; is = e ∙ (o.new j a g).0; first = λ c k. absurd (omega arith) }
-      | inr g ↦ shown_later (place_in ls) (Variable x) ts j (omega arith) (all_shown ts ys ls b (λ m k. still xs ys o.begins m (f m (there k))) j g h)
+      | inr g ↦ shown_later (place_in ls) (Variable x) ts j (omega (arith, e, p, g)) (all_shown ts ys ls b (λ m k. still xs ys o.begins m (f m (there k))) j g h)
     ]
 
 -- the lists of terms after the numbers, the row's variables and the lines' variables were put in

@@ -10,6 +10,7 @@ use Rattle.question.specs.declared.terms.Term.TheVariants.{Number, Variable}
 use Rattle.question.specs.Question.{Line, Question, In, here, there}
 use Rattle.question.specs.Sound.{Allowed}
 use Rattle.question.proofs.Members.{in_at}
+use Rattle.question.specs.Layout.{code}
 use Rattle.answer.specs.Terms.{first_place, place_in}
 use Rattle.answer.specs.Plan.{Kept, AllKept, places, LinePlanned, Plan, Planned, Joinable, no_line}
 use Rattle.answer.specs.Columns.{Ascending, LineInOrder, LineSlots, IsPlannedLine, order_of}
@@ -78,13 +79,14 @@ module _ (q : Question) (a : Allowed q) (p : Plan) (known shown all : List ℕ) 
   value-at j h = sym (get_or-take p.k p.env j 0 h) ∙ ap (λ (xs : List ℕ). get_or xs j 0) m.values
 
   kept-number : (n : ℕ) → first_place known n < length known → Kept (place_in all) name p.k p.env (Number n)
+  unfolding code
   kept-number n h =
       let e : first_place all n ≡ first_place known n = begins-place known all (known-all q a known shown all m.listed) n h in
       let g : first_place known n < p.k = rw m.k_is at h in
       (rw e g, rw e (value-at (first_place known n) g ∙ place_holds known n h))
 
   kept-variable : (x : ℕ) → first_place all (4294967296 + x) < length all → Kept (place_in all) name p.k p.env (Variable x)
-  unfolding name
+  unfolding name code
   kept-variable x h =
       let f = first_place all (4294967296 + x) in
       let e : get_or all f 0 ≡ 4294967296 + x = place_holds all (4294967296 + x) h in (
@@ -108,10 +110,12 @@ module _ (q : Question) (a : Allowed q) (p : Plan) (known shown all : List ℕ) 
 
   -- each term's slot is below n
   slot-below : (l : Line) → In l q.lines → (t : Term) → In t l.cells → place_in all t < p.n
+  unfolding code
   slot-below l j (Number n) i = rw m.n_is at (still known all (known-all q a known shown all m.listed) n (line-number q a known shown all m.listed l j n i))
   slot-below l j (Variable x) i = rw m.n_is at (line-variable q a known shown all m.listed l j x i)
 
   row_below : (t : Term) → In t q.row → place_in all t < p.shown
+  unfolding code
   row_below (Number n) i =
       let h = row_number q a known shown all m.listed n i in
       let e = begins-place known all (known-all q a known shown all m.listed) n h in
@@ -198,6 +202,7 @@ module _ (q : Question) (a : Allowed q) (p : Plan) (known shown all : List ℕ) 
       record { line = i; inside = rw lines-count h; column = r.from + 1; narrow = omega (arith, r.narrow); is = rw (s, r.is) e }
 
   covered-at : (j : ℕ) → p.k ≤ j → j < p.n → HasSlot p.lines j
+  unfolding code
   covered-at j b h =
       let o : OfLine q all j = of-line q a known shown all m.listed j (rw m.k_is b) (rw m.n_is h) in
       let f = found_at no_line o.is_in in

@@ -3,13 +3,9 @@ use Rattle.std.specs.Prelude.{ℕ, suc, ◌+◌, cond, List, [], ◌∷◌, ◌+
 use Rattle.question.specs.declared.terms.Term.{Term}
 use Rattle.question.specs.declared.terms.Term.TheVariants.{Number, Variable}
 use Rattle.question.specs.Question.{Line}
+use Rattle.question.specs.Layout.{code}
 use Rattle.answer.specs.declared.codes.Kind.{Kind}
 use Rattle.answer.specs.declared.codes.Kind.TheVariants.{Numbers, Variables}
-
--- a number as itself, a variable behind all numbers of a question
-abbrev pub code : Term → ℕ
-code (Number n) = n
-code (Variable x) = 4294967296 + x
 
 -- the first place of a number, and the length where it has none
 unfoldable pub first_place : List ℕ → ℕ → ℕ

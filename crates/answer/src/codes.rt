@@ -2,7 +2,8 @@
 ghost use Rattle.std.specs.Prelude.{◌≡◌, ◌+◌, ◌<◌, ◌≤◌, true, false, [], ◌∷◌, length, take};
 ghost use Rattle.join.specs.Slots.{Blank};
 ghost use Rattle.question.specs.Lent.{terms_of, lines_of};
-ghost use Rattle.answer.specs.Terms.{code, place_in, put_in, all_put_in, codes_of, line_codes};
+ghost use Rattle.question.specs.Layout.{code};
+ghost use Rattle.answer.specs.Terms.{place_in, put_in, all_put_in, codes_of, line_codes};
 
 use arrayvec::ArrayVec;
 use question::{Lines, Term, Terms};
@@ -16,7 +17,7 @@ pub(crate) enum Kind {
 
 impl Kind {
     // Whether the term is meant.
-    #[tactic(auto, unfolding(crate::specs::Terms::codes_of))]
+    #[tactic(auto, unfolding(crate::specs::Terms::codes_of, question::specs::Layout::code))]
     fn has(self, term: Term) -> bool
         ensures yes { result ≡ true → codes_of self (term ∷ []) ≡ code term ∷ [] }
         ensures no { result ≡ false → codes_of self (term ∷ []) ≡ [] }
@@ -25,16 +26,6 @@ impl Kind {
             (self, term),
             (Kind::Numbers, Term::Number(_)) | (Kind::Variables, Term::Variable(_))
         )
-    }
-}
-
-// The number that a term is kept as: that of a variable is behind all numbers of a question.
-fn code(term: Term) -> u64
-    ensures { result ≡ code term }
-{
-    match term {
-        Term::Number(n) => u64::from(n),
-        Term::Variable(x) => 4294967296 + u64::from(x),
     }
 }
 
@@ -67,7 +58,7 @@ impl Codes {
     pub(crate) fn slot(&self, term: Term) -> usize
         ensures { result ≡ place_in self.now.list.items term }
     {
-        let code = code(term);
+        let code = term.code();
         let place = self.list.iter().position(|other| *other == code);
         place.unwrap_or(self.list.len())
     }
@@ -77,7 +68,7 @@ impl Codes {
         requires { length self.old.list.items < 24 }
         ensures { self.new.list.items ≡ put_in self.old.list.items (code term) }
     {
-        let code = code(term);
+        let code = term.code();
         if !self.list.contains(&code) {
             self.list.push(code);
         }

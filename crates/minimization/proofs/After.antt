@@ -1,7 +1,6 @@
 -- The first choice that passes with some lines taken already: the steps of nested loops over the lines that come next.
-use Rattle.std.proofs.Common.{◌≡◌, ℕ, suc, ◌+◌, ◌-◌, ◌<◌, ◌≤◌, Bool, true, false, cond, List, [], ◌∷◌, ◌++◌, map, is_some, Some, None, Option, sym, refl, ap, ◌∙◌, ap₂, arith}
-use borrow.Author.Tests.{clash}
-use Rattle.std.specs.Option.{option_or, option_map}
+use Rattle.std.proofs.Common.{◌≡◌, ℕ, suc, ◌+◌, ◌-◌, ◌<◌, ◌≤◌, Bool, cond, List, [], ◌∷◌, ◌++◌, map, Some, None, Option, sym, refl, ap, ◌∙◌, ap₂, arith}
+use Rattle.std.specs.Option.{option_or}
 use Rattle.std.proofs.lemmas.List.{append_assoc, append-nil, map-append, map-id}
 use Rattle.minimization.specs.Choices.{choices, first_right, first_after, by_size}
 use Rattle.minimization.proofs.Choosing.{first_join}
@@ -42,14 +41,6 @@ or-or : {B : Type 0} (a b c : Option B) → option_or (option_or a b) c ≡ opti
 or-or None b c = refl
 or-or (Some x) b c = refl
 
-some_or : {B C : Type 0} (g : B → C) (o : Option B) (rest whole : Option C) → is_some o ≡ true → option_or (option_map g o) rest ≡ whole → option_map g o ≡ whole
-some_or g None rest whole t e = absurd (clash t)
-some_or g (Some b) rest whole t e = e
-
-none_or : {B C : Type 0} (g : B → C) (o : Option B) (rest whole : Option C) → is_some o ≡ false → option_or (option_map g o) rest ≡ whole → rest ≡ whole
-none_or g None rest whole t e = e
-none_or g (Some b) rest whole t e = absurd (clash (sym t))
-
 -- A loop over the lines that come next, behind p which are taken, at n more to take: what is found in it, or else in what comes after it.
 module _ {A : Type 0} (f : List A → Bool) where
   abbrev pub left : List A → ℕ → List A → Option (List A) → Option (List A)
@@ -73,27 +64,15 @@ module _ {A : Type 0} (f : List A → Bool) where
   pub over : (p : List A) (n : ℕ) (none : List A) (rest whole : Option (List A)) → none ≡ [] → left p (suc n) none rest ≡ whole → rest ≡ whole
   over p n none rest whole e is = ap (λ (o : Option (List A)). option_or o rest) (sym (ap (first_after f p (suc n)) e ∙ after_end f p n)) ∙ is
 
-  -- with the next line something is found, or not
-  pub found : {B : Type 0} (g : B → List A) (o : Option B) (p q : List A) (n : ℕ) (before : List A) (w : A) (ws : List A) (rest whole : Option (List A)) → before ≡ w ∷ ws → q ≡ p ++ w ∷ []
-      → option_map g o ≡ first_after f q n ws → is_some o ≡ true → left p (suc n) before rest ≡ whole → option_map g o ≡ whole
-  found g o p q n before w ws rest whole b e now some is =
-      some_or g o (left p (suc n) ws rest) whole some (ap (λ (r : Option (List A)). option_or r (left p (suc n) ws rest)) now ∙ enter p q n before w ws rest whole b e is)
-
-  pub past : {B : Type 0} (g : B → List A) (o : Option B) (p q : List A) (n : ℕ) (before : List A) (w : A) (ws : List A) (rest whole : Option (List A)) → before ≡ w ∷ ws → q ≡ p ++ w ∷ []
-      → option_map g o ≡ first_after f q n ws → is_some o ≡ false → left p (suc n) before rest ≡ whole → left p (suc n) ws rest ≡ whole
-  past g o p q n before w ws rest whole b e now none is =
-      none_or g o (left p (suc n) ws rest) whole none (ap (λ (r : Option (List A)). option_or r (left p (suc n) ws rest)) now ∙ enter p q n before w ws rest whole b e is)
+  -- with the next line o is found, something or nothing
+  pub tried : (p q : List A) (n : ℕ) (before : List A) (w : A) (ws : List A) (rest whole o : Option (List A)) → before ≡ w ∷ ws → q ≡ p ++ w ∷ [] → o ≡ first_after f q n ws → left p (suc n) before rest ≡ whole
+      → option_or o (left p (suc n) ws rest) ≡ whole
+  tried p q n before w ws rest whole o b e now is = ap (λ (r : Option (List A)). option_or r (left p (suc n) ws rest)) now ∙ enter p q n before w ws rest whole b e is
 
   -- all lines are taken with the next: they pass, or they don't
-  pub passed : (p q : List A) (before : List A) (w : A) (ws : List A) (rest whole : Option (List A)) → before ≡ w ∷ ws → q ≡ p ++ w ∷ [] → true ≡ f q → left p 1 before rest ≡ whole → Some q ≡ whole
-  passed p q before w ws rest whole b e t is = found (λ c. c) (Some q) p q 0 before w ws rest whole b e (ap (λ (y : Bool). cond y (Some q) None) t ∙ sym (after_last f q ws)) refl is
-
-  pub failed : (p q : List A) (before : List A) (w : A) (ws : List A) (rest whole : Option (List A)) → before ≡ w ∷ ws → q ≡ p ++ w ∷ [] → false ≡ f q → left p 1 before rest ≡ whole → left p 1 ws rest ≡ whole
-  failed p q before w ws rest whole b e t is = past {B = List A} (λ c. c) None p q 0 before w ws rest whole b e (ap (λ (y : Bool). cond y (Some q) None) t ∙ sym (after_last f q ws)) refl is
-
-pub none-found : {B : Type 0} (o : Option B) → is_some o ≡ false → o ≡ None
-none-found None e = refl
-none-found (Some b) e = absurd (clash (sym e))
+  pub tested : (p q : List A) (before : List A) (w : A) (ws : List A) (rest whole : Option (List A)) (t : Bool) → before ≡ w ∷ ws → q ≡ p ++ w ∷ [] → t ≡ f q → left p 1 before rest ≡ whole
+      → option_or (cond t (Some q) None) (left p 1 ws rest) ≡ whole
+  tested p q before w ws rest whole t b e now is = tried p q 0 before w ws rest whole (cond t (Some q) None) b e (ap (λ (y : Bool). cond y (Some q) None) now ∙ sym (after_last f q ws)) is
 
 -- A loop over sizes: a choice of the next size is found or not, and the end.
 size_more : {A : Type 0} (f : List A → Bool) (ws : List A) (most n : ℕ) → n < most + 1
@@ -104,22 +83,10 @@ size_more f ws most n h =
     let s : suc n ≡ n + 1 = omega arith in
     rw (e, s)
 
-pub size_found : {A B : Type 0} (f : List A → Bool) (ws : List A) (most n : ℕ) (g : B → List A) (o : Option B) (whole : Option (List A)) → n < most + 1
-    → option_map g o ≡ first_right f (choices n ws) → is_some o ≡ true → by_size f ws (most + 1 - n) n ≡ whole → option_map g o ≡ whole
-size_found f ws most n g o whole h e t inv =
-    let rest = by_size f ws (most + 1 - (n + 1)) (n + 1) in
-    some_or g o rest whole t (ap (λ (p : Option (List _)). option_or p rest) e ∙ sym (size_more f ws most n h) ∙ inv)
-
-pub size_past : {A B : Type 0} (f : List A → Bool) (ws : List A) (most n : ℕ) (g : B → List A) (o : Option B) (whole : Option (List A)) → n < most + 1
-    → option_map g o ≡ first_right f (choices n ws) → is_some o ≡ false → by_size f ws (most + 1 - n) n ≡ whole → by_size f ws (most + 1 - (n + 1)) (n + 1) ≡ whole
-size_past f ws most n g o whole h e t inv =
-    let rest = by_size f ws (most + 1 - (n + 1)) (n + 1) in
-    none_or g o rest whole t (ap (λ (p : Option (List _)). option_or p rest) e ∙ sym (size_more f ws most n h) ∙ inv)
+pub size_tried : {A : Type 0} (f : List A → Bool) (ws : List A) (most n : ℕ) (whole o : Option (List A)) → n < most + 1 → o ≡ first_right f (choices n ws) → by_size f ws (most + 1 - n) n ≡ whole
+    → option_or o (by_size f ws (most + 1 - (n + 1)) (n + 1)) ≡ whole
+size_tried f ws most n whole o h e inv = ap (λ (p : Option (List _)). option_or p (by_size f ws (most + 1 - (n + 1)) (n + 1))) e ∙ sym (size_more f ws most n h) ∙ inv
 
 pub size_end : {A : Type 0} (f : List A → Bool) (ws : List A) (most n : ℕ) → most + 1 ≤ n → by_size f ws (most + 1 - n) n ≡ None
 unfolding by_size
 size_end f ws most n h = let e : most + 1 - n ≡ 0 = omega arith in rw e
-
-pub size_last : {A B : Type 0} (f : List A → Bool) (ws : List A) (most n : ℕ) (g : B → List A) (o : Option B) (whole : Option (List A)) → n < most + 1 → most ≤ n
-    → option_map g o ≡ first_right f (choices n ws) → is_some o ≡ false → by_size f ws (most + 1 - n) n ≡ whole → None ≡ whole
-size_last f ws most n g o whole h l e t inv = sym (size_end f ws most (n + 1) (omega arith)) ∙ size_past f ws most n g o whole h e t inv

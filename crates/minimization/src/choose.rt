@@ -48,8 +48,8 @@ impl<'a, T: Test> Candidates<'a, T> {
         let mut behind_a = self.lines;
         'found: while let Some(a) = behind_a.next() {
             let one = none.with(&a);
-            first = self.first_with(&one, &behind_a);
-            if first.is_some() {
+            if let Some(two) = self.first_with(&one, &behind_a) {
+                first = Some(two);
                 break 'found;
             }
         }
@@ -68,8 +68,8 @@ impl<'a, T: Test> Candidates<'a, T> {
             let mut behind_b = behind_a;
             while let Some(b) = behind_b.next() {
                 let two = one.with(&b);
-                first = self.first_with(&two, &behind_b);
-                if first.is_some() {
+                if let Some(three) = self.first_with(&two, &behind_b) {
+                    first = Some(three);
                     break 'found;
                 }
             }
@@ -92,8 +92,8 @@ impl<'a, T: Test> Candidates<'a, T> {
                 let mut behind_c = behind_b;
                 while let Some(c) = behind_c.next() {
                     let three = two.with(&c);
-                    first = self.first_with(&three, &behind_c);
-                    if first.is_some() {
+                    if let Some(four) = self.first_with(&three, &behind_c) {
+                        first = Some(four);
                         break 'found;
                     }
                 }
@@ -121,9 +121,8 @@ impl<'a, T: Test> Candidates<'a, T> {
         ensures { option_map meant result ≡ by_size (T.decides self.now.test) (lines_of self.now.lines) most 1 }
     {
         for n in 1..=most {
-            let first = self.first_choice(n);
-            if first.is_some() {
-                return first;
+            if let Some(first) = self.first_choice(n) {
+                return Some(first);
             }
         }
         None

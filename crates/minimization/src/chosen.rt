@@ -35,12 +35,10 @@ impl Chosen {
         ensures lines { meant result ≡ meant self.now ++ line_of line.now ∷ [] }
         ensures count { length (meant result) ≡ length (meant self.now) + 1 }
     {
-        let mut lines = self.lines;
-        lines[self.count] = *line.numbers();
-        Chosen {
-            count: self.count + 1,
-            lines,
-        }
+        let mut more = *self;
+        more.lines[more.count] = *line.numbers();
+        more.count += 1;
+        more
     }
 
     // The lines.

@@ -28,7 +28,8 @@ impl<'q, 'r> Test for WillDo<'q, 'r> {
 
     fn passes(&self, lines: &Lines<'_, 16>) -> bool {
         let expanded = expand_uses(&self.reports, lines);
-        reads_into(&self.question, &expanded.lines())
+        let put_in = expanded.lines();
+        reads_into(&self.question, &put_in)
     }
 }
 
@@ -44,7 +45,8 @@ fn write_fewest(test: &WillDo<'_, '_>, uses: &Uses, out: &mut [u64]) -> Option<u
         test: *test,
         lines: uses.lines(),
     };
-    let chosen = candidates.first_of_sizes(question.lines().count_left())?;
+    let most = question.lines().count_left();
+    let chosen = candidates.first_of_sizes(most)?;
     let lines = chosen.lines();
     question.write_with(&lines, out);
     Some(lines.count_left() as u64)

@@ -1,8 +1,6 @@
-use Rattle.std.proofs.Common.{◌≡◌, ℕ, replicate, string_bytes, IfOk, rules, ◌∙◌, ap}
-use Rattle.question.specs.Layout.{question_in}
+use Rattle.std.proofs.Common.{rules}
 use Rattle.question.proofs.Accepted.{not_refused}
 use Rattle.rewriting.specs.Answer.{Stands, Meant, printed}
-use Rattle.rewriting.specs.Texts.{reply_text, found_text}
 use Rattle.rewriting.proofs.line.found_line.Goals as goal
 
 pub of_checked-requires : goal.of_checked-requires

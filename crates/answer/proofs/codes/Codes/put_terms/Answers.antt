@@ -1,5 +1,6 @@
 use Rattle.std.proofs.Common.{rules, arith, ◌∙◌, sym}
-use Rattle.answer.specs.Terms.{all_put_in, code}
+use Rattle.question.specs.Layout.{code}
+use Rattle.answer.specs.Terms.{all_put_in}
 use Rattle.answer.proofs.Listing.{one-length}
 use Rattle.answer.proofs.Gathering.{term-put, term-left, term-room, no-codes}
 use Rattle.answer.proofs.codes.Codes.put_terms.Goals as goal

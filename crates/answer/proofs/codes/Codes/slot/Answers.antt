@@ -9,4 +9,4 @@ pub returns : goal.returns
 returns c =
     let xs = c.args.self.now.list.items in
     let p = position_from_yields_List (λ y. eqb y c.code-code.result) _ _ c.position-place.result c.position-place.ensures.ran (YieldsList-from_slice xs cc) (λ x b q k. search (rules, tests)) in
-    c.unwrap_or.ensures ∙ place-any xs c.code-code.result c.len.result c.position-place.result c.len.ensures.value p ∙ ap (first_place xs) c.code-code.ensures
+    c.unwrap_or.ensures ∙ place-any xs c.code-code.result c.len.result c.position-place.result c.len.ensures.value p ∙ ap (first_place xs) c.code-code.ensures.code

@@ -1,8 +1,8 @@
-use Rattle.std.proofs.Common.{refl, sym, ap, ◌∙◌}
+use Rattle.std.proofs.Common.{Some, None, refl, ap, ◌∙◌}
 use Rattle.std.specs.Option.{option_map}
 use Rattle.question.specs.Lent.{line_of}
 use Rattle.minimization.specs.Meant.{meant}
-use Rattle.minimization.proofs.After.{begin, enter, over, found, past, none-found}
+use Rattle.minimization.proofs.After.{begin, enter, over, tried}
 use Rattle.minimization.proofs.choose.Candidates.first_four.Goals as goal
 
 pub found-init : goal.found-init
@@ -15,10 +15,10 @@ pub loop-c-init : goal.loop-c-init
 loop-c-init g c = (c.loop-b.invariant.0, enter _ _ _ 2 _ (line_of c.in-Some-next.b) _ _ _ c.in-Some-next.ensures.steps c.with-two.ensures.lines c.loop-b.invariant.1)
 
 pub loop-c-preserved : goal.loop-c-preserved
-loop-c-preserved g c = (none-found _ (sym c.if-is_some.ensures), past _ meant c.first_with-first.result _ _ 1 _ (line_of c.in-Some-next-2.c) _ _ _ c.in-Some-next-2.ensures.steps c.with-three.ensures.lines c.first_with-first.ensures (sym c.if-is_some.ensures) c.loop-c.invariant.1)
+loop-c-preserved g c = (c.loop-c.invariant.0, tried _ _ _ 1 _ (line_of c.in-Some-next-2.c) _ _ _ None c.in-Some-next-2.ensures.steps c.with-three.ensures.lines c.in_default-first_with.ensures c.loop-c.invariant.1)
 
-pub returns-then-is_some : goal.returns-then-is_some
-returns-then-is_some g c = found _ meant c.first_with-first.result _ _ 1 _ (line_of c.in-Some-next-2.c) _ _ _ c.in-Some-next-2.ensures.steps c.with-three.ensures.lines c.first_with-first.ensures (sym c.if-is_some.ensures) c.loop-c.invariant.1
+pub returns-in-Some-first_with : goal.returns-in-Some-first_with
+returns-in-Some-first_with g c = tried _ _ _ 1 _ (line_of c.in-Some-next-2.c) _ _ _ (Some (meant c.in-Some-first_with.four)) c.in-Some-next-2.ensures.steps c.with-three.ensures.lines c.in-Some-first_with.ensures c.loop-c.invariant.1
 
 pub loop-b-preserved : goal.loop-b-preserved
 loop-b-preserved g c = (c.loop-c.invariant.0, over _ _ 1 _ _ _ c.in_default-next-2.ensures.steps.0 c.loop-c.invariant.1)

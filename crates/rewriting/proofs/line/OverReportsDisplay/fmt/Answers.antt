@@ -7,12 +7,16 @@ use Rattle.rewriting.proofs.Lines.{use-more, uses-over, uses-from}
 use Rattle.rewriting.proofs.line.OverReportsDisplay.fmt.Goals as goal
 
 pub loop-more-preserved : goal.loop-more-preserved
-loop-more-preserved g c = (tt, tt, λ plain.
-    let so_far = c.loop-more.invariant.2 plain in (
-      so_far.0 ++ (codes "," ++ use_text (line_of c.in-Some-more.more)),
-      has_written_append _ _ _ _ _ _ so_far.1 (search rules),
-      use-more _ (line_of c.in-Some-more.more) _ so_far.0 _ c.in-Some-more.ensures.steps so_far.2,
-    ))
+loop-more-preserved g c = (
+  tt,
+  tt,
+  λ plain.
+      let so_far = c.loop-more.invariant.2 plain in (
+        so_far.0 ++ (codes "," ++ use_text (line_of c.in-Some-more.more)),
+        has_written_append _ _ _ _ _ _ so_far.1 (search rules),
+        use-more _ (line_of c.in-Some-more.more) _ so_far.0 _ c.in-Some-more.ensures.steps so_far.2,
+      ),
+)
 
 pub returns-clause-writes : goal.returns-clause-writes
 returns-clause-writes g c = λ plain _.

@@ -1,4 +1,4 @@
-use Rattle.std.proofs.Common.{◌++◌, codes, decimal, ap, sym, ◌∙◌, rules}
+use Rattle.std.proofs.Common.{◌++◌, codes, decimal, rules}
 use Rattle.std.specs.Fmt.{HasWritten}
 use Rattle.std.proofs.Output.{has_written_append, has_written_of_eq}
 use Rattle.question.specs.Lent.{line_of}
@@ -7,12 +7,16 @@ use Rattle.rewriting.proofs.Lines.{term-more, terms-over}
 use Rattle.rewriting.proofs.line.UseDisplay.fmt.Goals as goal
 
 pub loop-term-preserved : goal.loop-term-preserved
-loop-term-preserved g c = (tt, tt, λ plain.
-    let so_far = c.loop-term.invariant.2 plain in (
-      so_far.0 ++ (codes " " ++ term_text c.in-Some.term),
-      has_written_append _ _ _ _ _ _ so_far.1 (search rules),
-      term-more _ c.in-Some.term _ so_far.0 _ c.in-Some.ensures.steps so_far.2,
-    ))
+loop-term-preserved g c = (
+  tt,
+  tt,
+  λ plain.
+      let so_far = c.loop-term.invariant.2 plain in (
+        so_far.0 ++ (codes " " ++ term_text c.in-Some.term),
+        has_written_append _ _ _ _ _ _ so_far.1 (search rules),
+        term-more _ c.in-Some.term _ so_far.0 _ c.in-Some.ensures.steps so_far.2,
+      ),
+)
 
 pub returns-clause-writes : goal.returns-clause-writes
 returns-clause-writes g c = λ plain _.

@@ -168,6 +168,12 @@ impl<'a, const LIMIT: usize> Iterator for Terms<'a, LIMIT> {
     fn next(&mut self) -> Option<Term> {
         let (pair, left) = self.left.split_first()?;
         self.left = left;
-        Term::try_from(*pair).ok()
+        // The terms fit, so nothing is tested again: this is what a search does most.
+        let [kind, number] = *pair;
+        Some(if kind == 0 {
+            Term::Number(number as u32)
+        } else {
+            Term::Variable(number as u8)
+        })
     }
 }

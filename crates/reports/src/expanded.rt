@@ -14,7 +14,7 @@ pub struct Expanded {
 }
 
 impl Expanded {
-    ghost use Rattle.std.specs.Prelude.{[], ◌∷◌, ◌++◌, ◌<◌, length};
+    ghost use Rattle.std.specs.Prelude.{[], ◌∷◌, ◌++◌, ◌<◌, ◌≤◌, length};
     ghost use Rattle.question.specs.Layout.{line_in};
     ghost use Rattle.question.specs.Lent.{lines_of};
     ghost use Rattle.reports.specs.Lent.{expanded_lines};
@@ -39,7 +39,8 @@ impl Expanded {
 
     // The lines.
     pub fn lines(&self) -> Lines<'_, 256>
-        ensures { lines_of result ≡ expanded_lines self.now }
+        ensures lines { lines_of result ≡ expanded_lines self.now }
+        ensures few { length (expanded_lines self.now) ≤ 16 }
     {
         Lines::over(self.lines.as_slice())
     }

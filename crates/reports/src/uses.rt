@@ -36,7 +36,8 @@ impl Uses {
 
     // The lines.
     pub fn lines(&self) -> Lines<'_, 16>
-        ensures { lines_of result ≡ lines_kept self.now }
+        ensures lines { lines_of result ≡ lines_kept self.now }
+        ensures few { length (lines_kept self.now) ≤ 32 }
     {
         Lines::over(self.lines.as_slice())
     }

@@ -10,4 +10,4 @@ pub returns : goal.returns
 unfolding will_do expand
 returns c =
     let q = question_of c.args.self.now.question in
-    c.reads_into.ensures ∙ ap (λ (ls : List Line). can_read q (over_lines q ls)) (c.lines-put_in.ensures ∙ c.expand_uses-expanded.ensures)
+    c.reads_into.ensures ∙ ap (λ (ls : List Line). can_read q (over_lines q ls)) (c.lines-put_in.ensures.lines ∙ c.expand_uses-expanded.ensures)

@@ -15,23 +15,16 @@ use Rattle.answer.specs.Laws.{Copied}
 use Rattle.answer.proofs.Takings.{value-takes, takes-wide}
 
 -- the copies for the next line, and for those behind it
-pub all_more : (b : Base) (i : ℕ) (ls : List Line) (cols : List (List ℕ)) (l : Line) → drop i ls ≡ l ∷ drop (i + 1) ls
-    → all_copies b i (drop i ls) (drop i cols) ≡ copies_of i (get_or cols i []) l.cells (b l.table) ++ all_copies b (i + 1) (drop (i + 1) ls) (drop (i + 1) cols)
+pub all_more : (b : Base) (i : ℕ) (ls : List Line) (cols : List (List ℕ)) (l : Line) (rest : List Line) → ls ≡ l ∷ rest
+    → all_copies b i ls (drop i cols) ≡ copies_of i (get_or cols i []) l.cells (b l.table) ++ all_copies b (i + 1) rest (drop (i + 1) cols)
 unfolding all_copies
-all_more b i ls cols l e =
+all_more b i ls cols l rest e =
     let z : i + 0 ≡ i = omega arith in
     rw (e, get_or-drop i cols 0 [], z, drop-drop 1 i cols)
 
-pub all_end : (b : Base) (i : ℕ) (cols : List (List ℕ)) → all_copies b i [] cols ≡ []
+pub all_end : (b : Base) (i : ℕ) (ls : List Line) (cols : List (List ℕ)) → ls ≡ [] → all_copies b i ls cols ≡ []
 unfolding all_copies
-all_end b i cols = refl
-
--- the line at the front of what is left
-pub line-here : (i : ℕ) (ls : List Line) (l : Line) (rest : List Line) → drop i ls ≡ l ∷ rest → get_or ls i no_line ≡ l
-line-here i ls l rest e =
-    let z : i + 0 ≡ i = omega arith in
-    let g : get_or (drop i ls) 0 no_line ≡ get_or ls (i + 0) no_line = get_or-drop i ls 0 no_line in
-    ap (λ k. get_or ls k no_line) (sym z) ∙ sym g ∙ ap (λ xs. get_or xs 0 no_line) e
+all_end b i ls cols e = rw e refl
 
 -- a copy, cell by cell
 copied_at : (id : ℕ) (cols : List ℕ) (r : Row) (c : ℕ) → c < 4 → get_or (copy_row id cols r) (c + 1) 0 ≡ copy_cell cols r c

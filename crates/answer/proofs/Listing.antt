@@ -1,8 +1,10 @@
 -- Numbers put into a list one after the other, each unless it is there: the list begins as it was, has all of them, and each at one place.
-use Rattle.std.proofs.Common.{◌≡◌, ℕ, zero, suc, ◌+◌, ◌<◌, ◌≤◌, Bool, true, false, cond, eqb, ltb, List, [], ◌∷◌, ◌++◌, length, get_or, take, sym, refl, ap, ◌∙◌, inl, inr, arith, eq-eqb, eqb-true}
+use Rattle.std.specs.List.{list_any, position, position_or_len}
+use Rattle.std.specs.Option.{unwrap_or}
+use Rattle.std.proofs.Common.{◌≡◌, ℕ, zero, suc, ◌+◌, ◌<◌, ◌≤◌, Bool, true, false, cond, not, eqb, ltb, ◌||◌, Option, Some, None, List, [], ◌∷◌, ◌++◌, length, get_or, sym, refl, ap, ◌∙◌, inl, inr, arith, eq-eqb, eqb-true}
 use Rattle.std.proofs.lemmas.Bool.Decides.{nat_tests}
 use Rattle.std.proofs.lemmas.Bool.{cases_lt}
-use Rattle.std.proofs.lemmas.List.{append_assoc, append-nil, get_or_append_left, get_or_push, get_or-take, length-append, length_push, length-take-le}
+use Rattle.std.proofs.lemmas.List.{append_assoc, append-nil, get_or_append_left, get_or_push, length-append, length_push}
 use Rattle.question.specs.Question.{In, here, there}
 use Rattle.question.proofs.Members.{in_cases}
 use Rattle.answer.specs.Terms.{first_place, put_in, all_put_in}
@@ -24,16 +26,6 @@ first-none (x ∷ xs) c f =
     let ne : x ≡ c → ⊥ = f 0 (omega arith) in
     let b : eqb x c ≡ false = grind (arith, nat_tests) in
     rw b (ap suc (first-none xs c (λ i g. f (suc i) (omega arith))))
-
--- the same of the first n numbers
-pub first_found : (xs : List ℕ) (n c j : ℕ) → n ≤ length xs → j < n → get_or xs j 0 ≡ c → ((i : ℕ) → i < j → get_or xs i 0 ≡ c → ⊥) → first_place (take n xs) c ≡ j
-first_found xs n c j l h e f =
-    first-is (take n xs) c j (rw (length-take-le n xs l) h) (get_or-take n xs j 0 h ∙ e) (λ i g d. f i g (sym (get_or-take n xs i 0 (omega arith)) ∙ d))
-
-pub first_missing : (xs : List ℕ) (n c : ℕ) → n ≤ length xs → ((i : ℕ) → i < n → get_or xs i 0 ≡ c → ⊥) → first_place (take n xs) c ≡ n
-first_missing xs n c l f =
-    let e : length (take n xs) ≡ n = length-take-le n xs l in
-    first-none (take n xs) c (λ i g d. let h : i < n = omega arith in f i h (sym (get_or-take n xs i 0 h) ∙ d)) ∙ e
 
 later : (b : Bool) (r l : ℕ) → r < l → cond b 0 (suc r) < suc l
 later true r l h = omega arith
@@ -160,3 +152,53 @@ pub all_append : (xs cs ds : List ℕ) → all_put_in xs (cs ++ ds) ≡ all_put_
 unfolding all_put_in
 all_append xs [] ds = refl
 all_append xs (c ∷ cs) ds = all_append (put_in xs c) cs ds
+
+-- how many there are then
+pub one-length : (xs : List ℕ) (c : ℕ) → length (put_in xs c) ≤ length xs + 1
+one-length xs c = (one_in xs c).few
+
+pub put-length : (xs cs : List ℕ) → length (all_put_in xs cs) ≤ length xs + length cs
+unfolding all_put_in
+put-length xs [] = omega arith
+put-length xs (c ∷ cs) = let a = one-length xs c in let b = put-length (put_in xs c) cs in omega arith
+
+pub put-room : (xs cs ys : List ℕ) → ys ≡ all_put_in xs cs → length ys ≤ length xs + length cs
+put-room xs cs ys e = rw e (put-length xs cs)
+
+pub put-longer : (xs cs ys : List ℕ) → ys ≡ all_put_in xs cs → length xs ≤ length ys
+put-longer xs cs ys e = rw e (begins-length xs (all_put_in xs cs) (all-begin xs cs))
+
+-- whether a number is there, and its place
+place-most : (xs : List ℕ) (c : ℕ) → first_place xs c ≤ length xs
+unfolding first_place
+place-most [] c = omega arith
+place-most (x ∷ xs) c = go (eqb x c) (place-most xs c)
+  where
+    go : (b : Bool) → first_place xs c ≤ length xs → cond b 0 (suc (first_place xs c)) ≤ suc (length xs)
+    go true h = omega arith
+    go false h = omega arith
+
+pub there-any : (xs : List ℕ) (c : ℕ) → list_any (λ y. eqb y c) xs ≡ ltb (first_place xs c) (length xs)
+unfolding first_place
+there-any [] c = refl
+there-any (x ∷ xs) c = go (eqb x c) (there-any xs c)
+  where
+    go : (b : Bool) → list_any (λ y. eqb y c) xs ≡ ltb (first_place xs c) (length xs) → (b || list_any (λ y. eqb y c) xs) ≡ ltb (cond b 0 (suc (first_place xs c))) (suc (length xs))
+    go true e = grind (arith, nat_tests)
+    go false e = e ∙ grind (arith, nat_tests)
+
+place-position : (xs : List ℕ) (c : ℕ) → position_or_len (λ y. eqb y c) xs ≡ first_place xs c
+unfolding first_place
+place-position [] c = refl
+place-position (x ∷ xs) c = go (eqb x c) (place-position xs c)
+  where
+    go : (b : Bool) → position_or_len (λ z. eqb z c) xs ≡ first_place xs c → cond (not b) (1 + position_or_len (λ z. eqb z c) xs) 0 ≡ cond b 0 (suc (first_place xs c))
+    go true i = refl
+    go false i = omega (arith, i)
+
+pub place-any : (xs : List ℕ) (c n : ℕ) (r : Option ℕ) → n ≡ length xs → r ≡ position (λ y. eqb y c) xs → unwrap_or r n ≡ first_place xs c
+place-any xs c n r e h = rw (h, e, place-position xs c) (chosen (ltb (first_place xs c) (length xs)) (first_place xs c) (length xs) (λ f. let l = place-most xs c in grind (arith, nat_tests)))
+  where
+    chosen : (b : Bool) (m k : ℕ) → (b ≡ false → k ≡ m) → unwrap_or (cond b (Some m) None) k ≡ m
+    chosen true m k f = refl
+    chosen false m k f = f refl

@@ -1,86 +1,90 @@
--- Columns exchanged until their slots ascend.
-use Rattle.std.proofs.Common.{◌≡◌, ℕ, zero, suc, ◌+◌, ◌<◌, ◌≤◌, List, [], ◌∷◌, length, get_or, set, sym, refl, ap, ◌∙◌, inl, inr, arith}
-use Rattle.std.proofs.lemmas.Bool.{cases_eq, cases_lt}
-use Rattle.std.proofs.lemmas.List.Edits.{Swapped, swap_is, swapped_from_swap}
+-- Columns in the order of their slots.
+use Rattle.std.proofs.Common.{◌≡◌, ℕ, ◌+◌, ◌<◌, ◌≤◌, List, [], ◌∷◌, ◌++◌, map, length, get_or, drop, sym, refl, ap, ◌∙◌, inl, inr, arith}
+use Rattle.std.specs.List.{All, Contains, range_with_len}
+use Rattle.std.specs.List.Sorted.{IsPermutation, IsNonDecreasingBy}
+use Rattle.std.proofs.lemmas.List.{get_or-map, get_or-drop, get_or_default, get_or_append_left, get_or_push, length-map}
+use Rattle.std.proofs.lemmas.Bool.{cases_lt}
+use Rattle.std.proofs.lemmas.List.FromFn.{length-map-range_with_len, get_or-map-range_with_len}
+use Rattle.std.proofs.lemmas.List.Sorted.{All-permutation, IsPermutation-map, Contains-permutation, length_permutation}
+use Rattle.question.specs.declared.terms.Term.{Term}
+use Rattle.question.specs.declared.terms.Term.TheVariants.{Number}
+use Rattle.answer.specs.declared.columns.Column.{Column}
 use Rattle.answer.specs.Plan.{Reached}
-use Rattle.answer.specs.Columns.{Columns, slot_by}
+use Rattle.answer.specs.Columns.{column_at, order_of, InOrder, LineInOrder, LineSlots}
 
--- two columns exchanged
-abbrev pub Exchanged : List ℕ → List ℕ → ℕ → ℕ → Type 0
-Exchanged cols new i j = Swapped (λ c. get_or cols c 0) (λ c. get_or new c 0) i j
+abbrev pub no_column : Column
+no_column = record { place = 0; slot = 0 }
 
-pub exchanged : (cols : List ℕ) (i j : ℕ) → i < length cols → j < length cols → Exchanged cols (set (set cols i (get_or cols j 0)) j (get_or cols i 0)) i j
-exchanged cols i j h g = swapped_from_swap cols (set (set cols i (get_or cols j 0)) j (get_or cols i 0)) i j 0 h g (swap_is cols i j 0 h g)
+-- what comes at i is the i-th
+pub next-at : {A : Type 0} (i : ℕ) (xs : List A) (x d : A) (ys : List A) → drop i xs ≡ x ∷ ys → get_or xs i d ≡ x
+next-at i xs x d ys e =
+    let z : i + 0 ≡ i = omega arith in
+    let g : get_or (drop i xs) 0 d ≡ get_or xs (i + 0) d = get_or-drop i xs 0 d in
+    ap (λ k. get_or xs k d) (sym z) ∙ sym g ∙ ap (λ ys. get_or ys 0 d) e
 
--- a fact of each place, where two are exchanged
-each-place : (i j c : ℕ) (P : ℕ → Type 0) → P i → P j → ((c ≡ i → ⊥) → (c ≡ j → ⊥) → P c) → P c
-each-place i j c P a b f = elim (cases_eq c i) [
-  | inl e ↦ rw e a
-  | inr n ↦ elim (cases_eq c j) [ inl e ↦ rw e b | inr m ↦ f n m ]
+-- one more that is as it has to be
+pub each-pushed : {X : Type 0} (P : ℕ → X → Type 0) (xs : List X) (n : ℕ) (y : X) → length xs ≡ n → ((j : ℕ) (d : X) → j < n → P j (get_or xs j d)) → P n y
+    → (j : ℕ) (d : X) → j < n + 1 → P j (get_or (xs ++ y ∷ []) j d)
+each-pushed P xs n y l f p j d h = elim (cases_lt j n) [
+  | inl g ↦ (let i : j < length xs = omega arith in rw (get_or_append_left xs (y ∷ []) d j i) (f j d g))
+  | inr g ↦ (let e : j ≡ n = omega arith in let m : length xs ≡ n = l in rw (e, get_or_push xs y d n m) p)
 ]
 
-module _ (cols new : List ℕ) (w i j : ℕ) (hi : i < w) (hj : j < w) (x : Exchanged cols new i j) where
-  pub columns-exchanged : Columns w cols → Columns w new
-  columns-exchanged k = record {
-    inside = λ c h. each-place i j c (λ c. get_or new c 0 < w) (rw x.0 (k.inside j hj)) (rw x.1 (k.inside i hi)) (λ n m. rw (x.2 c n m) (k.inside c h));
-    each = λ d h. (let r = k.each d h in back d r.from r.narrow r.is);
+module _ (place : Term → ℕ) (ts : List Term) (cs : List Column) (p : IsPermutation (map (column_at place ts) (range_with_len 0 (length ts))) cs) where
+  as_many : length cs ≡ length ts
+  as_many = length_permutation _ cs p ∙ length-map-range_with_len (column_at place ts) 0 (length ts)
+
+  each-of : (P : Column → Type 0) → ((i : ℕ) → i < length ts → P (column_at place ts i)) → All P cs
+  each-of P f = All-permutation P _ cs p (λ k d h.
+      let l = length-map-range_with_len (column_at place ts) 0 (length ts) in
+      let i : k < length ts = omega arith in
+      rw (get_or-map-range_with_len (column_at place ts) 0 (length ts) k k d i (omega arith)) (f k i))
+
+  inside : (c : ℕ) → c < length ts → get_or (order_of cs) c 0 < length ts
+  inside c h =
+      let l = as_many in
+      let i : c < length cs = omega arith in
+      rw (get_or-map (λ (c : Column). c.place) cs c no_column 0 i) (each-of (λ (c : Column). c.place < length ts) (λ i g. g) c no_column i)
+
+  reached : (d : ℕ) → d < length ts → Reached (order_of cs) (length ts) d
+  reached d h =
+      let xs = map (column_at place ts) (range_with_len 0 (length ts)) in
+      let l = length-map-range_with_len (column_at place ts) 0 (length ts) in
+      let m = length-map xs (λ (c : Column). c.place) in
+      let i : d < length xs = omega arith in
+      let j : d < length (order_of xs) = omega arith in
+      let e : get_or (order_of xs) d d ≡ d = get_or-map (λ (c : Column). c.place) xs d no_column d i ∙ ap (λ (c : Column). c.place) (get_or-map-range_with_len (column_at place ts) 0 (length ts) d d no_column h (omega arith)) in
+      let f : Contains (order_of cs) d = Contains-permutation (order_of xs) (order_of cs) d (IsPermutation-map (λ (c : Column). c.place) xs cs p) (d, j, e) in
+      let n = length-map cs (λ (c : Column). c.place) in
+      let k = as_many in
+      record { from = f.0; narrow = omega (arith, f.1); is = get_or_default (order_of cs) f.0 0 d f.1 ∙ f.2 }
+
+  pub in_order : IsNonDecreasingBy (λ (c : Column). c.slot) cs → InOrder place ts cs
+  in_order up = record {
+    long = as_many;
+    slots = each-of (λ (c : Column). c.slot ≡ place (get_or ts c.place (Number 0))) (λ i h. refl);
+    columns = record { inside = inside; each = reached };
+    rising = up;
   }
-    where
-      back : (d p : ℕ) → p < w → get_or cols p 0 ≡ d → Reached new w d
-      back d p h e = elim (cases_eq p i) [
-        | inl a ↦ record { from = j; narrow = hj; is = x.1 ∙ ap (λ c. get_or cols c 0) (sym a) ∙ e }
-        | inr n ↦ elim (cases_eq p j) [
-          | inl b ↦ record { from = i; narrow = hi; is = x.0 ∙ ap (λ c. get_or cols c 0) (sym b) ∙ e }
-          | inr m ↦ record { from = p; narrow = h; is = x.2 p n m ∙ e }
-        ]
-      ]
 
-  pub least-exchanged : (slots : List ℕ) → i < j → slot_by slots cols j < slot_by slots cols i → ((c : ℕ) → i ≤ c → c < j → slot_by slots cols i ≤ slot_by slots cols c)
-      → (c : ℕ) → i ≤ c → c < j + 1 → slot_by slots new i ≤ slot_by slots new c
-  least-exchanged slots o l f c a b =
-      let e : slot_by slots new i ≡ slot_by slots cols j = ap (λ d. get_or slots d 0) x.0 in
-      let g : slot_by slots new j ≡ slot_by slots cols i = ap (λ d. get_or slots d 0) x.1 in
-      each-place i j c (λ c. slot_by slots new i ≤ slot_by slots new c) (omega arith) (omega arith)
-      (λ n m. let t = f c a (omega arith) in let s : slot_by slots new c ≡ slot_by slots cols c = ap (λ d. get_or slots d 0) (x.2 c n m) in omega arith)
+module _ (place : Term → ℕ) (ts : List Term) (cs : List Column) (o : InOrder place ts cs) where
+  -- the slot of the c-th column is that of its term
+  term-slot : (c : ℕ) → c < length ts → (get_or cs c no_column).slot ≡ place (get_or ts (get_or (order_of cs) c 0) (Number 0))
+  term-slot c h =
+      let l = o.long in
+      let i : c < length cs = omega arith in
+      rw (get_or-map (λ (c : Column). c.place) cs c no_column 0 i) (o.slots c no_column i)
 
-  pub above-exchanged : (slots : List ℕ) (b : ℕ) → i ≤ j → ((c : ℕ) → i ≤ c → c < w → b ≤ slot_by slots cols c) → (c : ℕ) → i ≤ c → c < w → b ≤ slot_by slots new c
-  above-exchanged slots b o f c a h =
-      each-place i j c (λ c. b ≤ slot_by slots new c) (rw x.0 (f j o hj)) (rw x.1 (f i (omega arith) hi)) (λ n m. rw (x.2 c n m) (f c a h))
+  pub line_order : LineInOrder place ts (order_of cs)
+  line_order = record {
+    columns = o.columns;
+    rising = λ c d h g. (let l = o.long in omega (arith, term-slot c (omega arith), term-slot d g, o.rising c d no_column h (omega arith)));
+  }
 
-  pub before-exchanged : i < j → (c : ℕ) → c < i → get_or new c 0 ≡ get_or cols c 0
-  before-exchanged o c h = x.2 c (λ e. omega arith) (λ e. omega arith)
-
-pub least-next : (slots cols : List ℕ) (i j : ℕ) → slot_by slots cols i ≤ slot_by slots cols j → ((c : ℕ) → i ≤ c → c < j → slot_by slots cols i ≤ slot_by slots cols c)
-    → (c : ℕ) → i ≤ c → c < j + 1 → slot_by slots cols i ≤ slot_by slots cols c
-least-next slots cols i j h f c a b = elim (cases_lt c j) [ inl g ↦ f c a g | inr g ↦ (let e : c ≡ j = omega arith in rw e h) ]
-
--- the columns as they are
-pub same_place : (c : ℕ) → c < 4 → get_or (0 ∷ 1 ∷ 2 ∷ 3 ∷ []) c 0 ≡ c
-same_place zero h = refl
-same_place (suc zero) h = refl
-same_place (suc (suc zero)) h = refl
-same_place (suc (suc (suc zero))) h = refl
-same_place (suc (suc (suc (suc c)))) h = absurd (omega arith)
-
-pub columns-first : (w : ℕ) → w ≤ 4 → Columns w (0 ∷ 1 ∷ 2 ∷ 3 ∷ [])
-columns-first w h = record {
-  inside = λ c g. (let e = same_place c (omega arith) in omega arith);
-  each = λ d g. record { from = d; narrow = g; is = same_place d (omega arith) };
-}
-
--- one place more has its column
-pub rising-next : (slots cols new : List ℕ) (i w : ℕ)
-    → ((c d : ℕ) → c < i → c ≤ d → d < w → slot_by slots cols c ≤ slot_by slots cols d)
-    → ((c : ℕ) → c < i → get_or new c 0 ≡ get_or cols c 0)
-    → ((c : ℕ) → i ≤ c → c < w → slot_by slots new i ≤ slot_by slots new c)
-    → ((b : ℕ) → ((c : ℕ) → i ≤ c → c < w → b ≤ slot_by slots cols c) → (c : ℕ) → i ≤ c → c < w → b ≤ slot_by slots new c)
-    → (c d : ℕ) → c < i + 1 → c ≤ d → d < w → slot_by slots new c ≤ slot_by slots new d
-rising-next slots cols new i w f same least above c d a o h = elim (cases_lt c i) [
-  | inl g ↦
-      (let e : slot_by slots new c ≡ slot_by slots cols c = ap (λ k. get_or slots k 0) (same c g) in
-      elim (cases_lt d i) [
-        | inl k ↦ (let s : slot_by slots new d ≡ slot_by slots cols d = ap (λ k. get_or slots k 0) (same d k) in let t = f c d g o h in omega arith)
-        | inr k ↦ rw e (above (slot_by slots cols c) (λ b m n. f c b g (omega arith) n) d k h)
-      ])
-  | inr g ↦ (let e : c ≡ i = omega arith in rw e (least d (omega arith) h))
-]
+  pub line_slots : (id : ℕ) (line : List ℕ) → get_or line 0 0 ≡ id → ((c : ℕ) → c < length cs → get_or line (c + 1) 0 ≡ get_or (map (λ (c : Column). c.slot) cs) c 0)
+      → ((c : ℕ) → length cs ≤ c → c < 4 → get_or line (c + 1) 0 ≡ 0) → LineSlots place ts (order_of cs) line id
+  line_slots id line f g z = record {
+    first = f;
+    slots = λ c h. (let l = o.long in let i : c < length cs = omega arith in g c i ∙ get_or-map (λ (c : Column). c.slot) cs c no_column 0 i ∙ term-slot c h);
+    zeros = λ c h n. (let l = o.long in z c (omega arith) n);
+  }

@@ -1,5 +1,5 @@
 -- How the question and the tables are turned away: which refusals there are.
-use Rattle.std.proofs.Common.{◌≡◌, ℕ, Bool, true, false, cond, ltb, List, length, get_or, drop, Some, None, Ok, Err, Option, Result, refl, subst, MatchResult}
+use Rattle.std.proofs.Common.{◌≡◌, ℕ, Bool, true, false, cond, ltb, List, length, get_or, drop, Some, None, Option, refl, subst}
 use Rattle.std.specs.Option.{option_or, option_map}
 use Rattle.question.specs.declared.refusals.Refusal.{Refusal}
 use Rattle.question.specs.declared.refusals.Refusal.TheVariants.{CutShort, NoQuestion, NoReport, NoRoomForQuestion, TooWide, NoRoomForRow, TableTooLarge, NoRoomForTables, NoMemory}
@@ -51,10 +51,16 @@ turned_away question tables before NoMemory x h = absurd x
 pub refused : (question tables before : List ℕ) (e : Refusal) → answer_refusal question tables ≡ Some e → RefusedFor question tables before before e
 refused question tables before e h = turned_away question tables before e (subst EarlyIf h (early question tables)) h
 
--- the last check is that of the tables
-pub by-tables : (question tables : List ℕ) (r : Result ℕ Refusal) (count : ℕ) → cut_short question ≡ None → tables_short tables ≡ None → question_refusal question ≡ None
-    → MatchResult r (λ n. (tables_refusal tables ≡ None) × (n ≡ count)) (λ e. tables_refusal tables ≡ Some e)
-    → MatchResult r (λ _. (answer_refusal question tables ≡ None) × (question_refusal question ≡ None) × (tables_refusal tables ≡ None)) (λ e. answer_refusal question tables ≡ Some e)
-unfolding answer_refusal
-by-tables question tables (Ok n) count c s q h = (rw (c, s, q) h.0, q, h.0)
-by-tables question tables (Err e) count c s q h = rw (c, s, q) h
+-- which check turns away, of those that are made one after another
+module _ (question tables : List ℕ) (long : cut_short question ≡ None) where
+  pub by_short : (e : Refusal) → tables_short tables ≡ Some e → answer_refusal question tables ≡ Some e
+  unfolding answer_refusal
+  by_short e h = rw (long, h) refl
+
+  pub by_question : (e : Refusal) → tables_short tables ≡ None → question_refusal question ≡ Some e → answer_refusal question tables ≡ Some e
+  unfolding answer_refusal
+  by_question e s h = rw (long, s, h) refl
+
+  pub by_tables : (r : Option Refusal) → tables_short tables ≡ None → question_refusal question ≡ None → tables_refusal tables ≡ r → answer_refusal question tables ≡ r
+  unfolding answer_refusal
+  by_tables r s q h = rw (long, s, q) h

@@ -1,5 +1,5 @@
 -- Rows that the join puts out, as rows that a question answers.
-use Rattle.std.proofs.Common.{◌≡◌, ℕ, suc, ◌+◌, ◌-◌, ◌*◌, ◌<◌, ◌≤◌, ◌⊎◌, List, [], ◌∷◌, map, length, get_or, drop, sym, refl, ap, ◌∙◌, subst, inl, inr, mul-le-mul_right, arith}
+use Rattle.std.proofs.Common.{◌≡◌, ℕ, suc, ◌+◌, ◌-◌, ◌*◌, ◌<◌, ◌≤◌, ◌⊎◌, List, [], ◌∷◌, map, length, get_or, drop, None, Ok, Err, Result, sym, refl, ap, ◌∙◌, subst, inl, inr, mul-le-mul_right, arith}
 use Rattle.std.specs.List.{range_with_len}
 use Rattle.std.proofs.lemmas.List.FromFn.{length-map-range_with_len, get_or-map-range_with_len}
 use Rattle.std.proofs.lemmas.List.{length-take-le, length-drop, get_or-take, get_or-drop, ext_get_or}
@@ -10,7 +10,11 @@ use Rattle.join.specs.Order.{Value, Before, cells}
 use Rattle.join.specs.RowsOut as join
 use Rattle.answer.specs.Plan.{Plan, Planned, places}
 use Rattle.answer.specs.Laws.{asked_by, Copied}
-use Rattle.answer.specs.Answered.{row_in, Among, BehindAll, FirstRows, AllRows, NoRoom}
+use Rattle.question.specs.declared.refusals.Refusal.{Refusal}
+use Rattle.question.specs.declared.refusals.Refusal.TheVariants.{CutShort, NoQuestion, NoReport, NoRoomForQuestion, TooWide, NoRoomForRow, TableTooLarge, NoRoomForTables, NoMemory}
+use Rattle.question.specs.Layout.{question_in}
+use Rattle.question.specs.Tables.{tables_in}
+use Rattle.answer.specs.Answered.{answer_refusal, row_in, Among, BehindAll, FirstRows, AllRows, NoRoom, RowsOut, Meant}
 use Rattle.answer.proofs.ByPlan.{plan_answers}
 
 length-places : (place : Term → ℕ) (ts : List Term) → length (places place ts) ≡ length ts
@@ -111,3 +115,19 @@ module _ (b : Base) (q : Question) (p : Plan) (rows : List (List ℕ)) (y : Plan
           behind = behind-all m.next next cell m.after;
           short = let h : length out < n * w + w = subst (λ (x : ℕ). length out < n * x + x) width m.short in omega arith;
         }
+
+-- what the join is put out with means what the question answers
+module _ (question tables : List ℕ) (b : Base) (q : Question) (accepted : answer_refusal question tables ≡ None) (base : b ≡ tables_in tables) (asked : q ≡ question_in question)
+    (p : Plan) (rows : List (List ℕ)) (y : Planned q p) (k : Copied b q p rows) (before out : List ℕ) (long : length out ≡ length before) where
+  pub meant : (r : Result ℕ Refusal) → RowsOut (asked_by p rows) before out r → Meant question tables before out r
+  unfolding Meant
+  meant (Ok n) h = (accepted, rw (← base, ← asked) (all_rows b q p rows y k before out n long h.0 h.1))
+  meant (Err (NoRoomForRow n)) h = (accepted, rw (← base, ← asked) (no_room b q p rows y k before out n long h.0 h.1))
+  meant (Err NoMemory) h = (accepted, h)
+  meant (Err (CutShort n)) h = absurd h
+  meant (Err (NoQuestion n)) h = absurd h
+  meant (Err (NoReport n)) h = absurd h
+  meant (Err (NoRoomForQuestion n)) h = absurd h
+  meant (Err TooWide) h = absurd h
+  meant (Err (TableTooLarge n)) h = absurd h
+  meant (Err (NoRoomForTables n)) h = absurd h

@@ -1,47 +1,49 @@
 -- What a line takes, cell by cell.
-use Rattle.std.proofs.Common.{◌≡◌, ℕ, suc, ◌+◌, ◌<◌, ◌≤◌, true, false, cond, ◌&&◌, eqb, List, [], ◌∷◌, length, get_or, drop, refl, ap, arith}
+use Rattle.std.proofs.Common.{◌≡◌, ℕ, suc, true, false, cond, eqb, List, [], ◌∷◌, length, refl, ap, arith}
 use Rattle.std.proofs.lemmas.Bool.Decides.{nat_tests}
-use Rattle.std.proofs.lemmas.List.{drop_more, drop_all}
 use Rattle.std.proofs.lemmas.Bool.{and_parts}
 use Rattle.question.specs.declared.terms.Term.{Term}
 use Rattle.question.specs.declared.terms.Term.TheVariants.{Number, Variable}
 use Rattle.question.specs.Question.{Row, Value, all_at}
 use Rattle.answer.specs.Taking.{one_number, takes}
 
--- the cell at the front
-front : (i : ℕ) (r : Row) → i < length r → drop i r ≡ get_or r i 0 ∷ drop (i + 1) r
-front i r h = drop_more r i 0 h
-
-module _ (x m i : ℕ) (ts : List Term) (r : Row) (inside : i < length r) where
-  pub number-next : (n : ℕ) → drop i ts ≡ Number n ∷ drop (i + 1) ts → one_number x m (drop i ts) (drop i r) ≡ one_number x m (drop (i + 1) ts) (drop (i + 1) r)
-  unfolding one_number
-  number-next n e = rw (e, front i r inside)
-
-  pub variable-next : (y : ℕ) → drop i ts ≡ Variable y ∷ drop (i + 1) ts → (y ≡ x → get_or r i 0 ≡ m) → one_number x m (drop i ts) (drop i r) ≡ one_number x m (drop (i + 1) ts) (drop (i + 1) r)
-  unfolding one_number
-  variable-next y e f = let t : cond (eqb y x) (eqb (get_or r i 0) m) true ≡ true = grind (arith, nat_tests) in rw (e, front i r inside, t)
-
-  pub variable-stop : (y : ℕ) → drop i ts ≡ Variable y ∷ drop (i + 1) ts → y ≡ x → (get_or r i 0 ≡ m → ⊥) → one_number x m (drop i ts) (drop i r) ≡ false
-  unfolding one_number
-  variable-stop y e f g = let t : cond (eqb y x) (eqb (get_or r i 0) m) true ≡ false = grind (arith, nat_tests) in rw (e, front i r inside, t)
-
-pub one_number_end : (x m i : ℕ) (ts : List Term) (r : Row) → length ts ≤ i → one_number x m (drop i ts) (drop i r) ≡ true
+-- of the next term and the next cell
+pub number_stop : (x m : ℕ) (us : List Term) (ts : List Term) (d : Row) (c : ℕ) (r : Row) → us ≡ Variable x ∷ ts → d ≡ c ∷ r → (c ≡ m → ⊥) → one_number x m us d ≡ false
 unfolding one_number
-one_number_end x m i ts r h = rw (drop_all i ts h)
+number_stop x m us ts d c r e f g =
+    let y : cond (eqb x x) (eqb c m) true ≡ false = grind (arith, nat_tests) in
+    rw (e, f, y) refl
 
-module _ (i : ℕ) (ts : List Term) (r : Row) (inside : i < length r) where
-  pub takes-number : (n : ℕ) → drop i ts ≡ Number n ∷ drop (i + 1) ts → takes (drop i ts) (drop i r) ≡ (eqb (get_or r i 0) n && takes (drop (i + 1) ts) (drop (i + 1) r))
-  unfolding takes
-  takes-number n e = rw (e, front i r inside)
+pub number_next : (x m : ℕ) (us : List Term) (t : Term) (ts : List Term) (d : Row) (c : ℕ) (r : Row) → us ≡ t ∷ ts → d ≡ c ∷ r → (t ≡ Variable x → c ≡ m) → one_number x m us d ≡ one_number x m ts r
+unfolding one_number
+number_next x m us (Number n) ts d c r e f g = rw (e, f) refl
+number_next x m us (Variable y) ts d c r e f g =
+    let h : y ≡ x → c ≡ m = λ z. g (ap (λ k. Variable k) z) in
+    let z : cond (eqb y x) (eqb c m) true ≡ true = grind (arith, nat_tests) in
+    rw (e, f, z) refl
 
-  pub takes-variable : (x : ℕ) → drop i ts ≡ Variable x ∷ drop (i + 1) ts
-      → takes (drop i ts) (drop i r) ≡ (one_number x (get_or r i 0) (drop (i + 1) ts) (drop (i + 1) r) && takes (drop (i + 1) ts) (drop (i + 1) r))
-  unfolding takes
-  takes-variable x e = rw (e, front i r inside)
+pub number_end : (x m : ℕ) (us : List Term) (d : Row) → length us ≡ 0 → one_number x m us d ≡ true
+unfolding one_number
+number_end x m [] d e = refl
+number_end x m (t ∷ ts) d e = absurd (omega arith)
 
-pub takes_end : (i : ℕ) (ts : List Term) (r : Row) → length ts ≤ i → length r ≤ i → takes (drop i ts) (drop i r) ≡ true
+pub number_no_cell : (x m : ℕ) (us : List Term) (d : Row) → length d ≡ 0 → one_number x m us d ≡ true
+unfolding one_number
+number_no_cell x m [] d e = refl
+number_no_cell x m (t ∷ ts) [] e = refl
+number_no_cell x m (t ∷ ts) (c ∷ r) e = absurd (omega arith)
+
+-- where the cells or the terms end
+pub takes_no_term : (us : List Term) (d : Row) (c : ℕ) (r : Row) → length us ≡ 0 → d ≡ c ∷ r → takes us d ≡ false
 unfolding takes
-takes_end i ts r h g = rw (drop_all i ts h, drop_all i r g)
+takes_no_term [] d c r e f = rw f refl
+takes_no_term (t ∷ ts) d c r e f = absurd (omega arith)
+
+pub takes_no_cell : (us : List Term) (d : Row) → length d ≡ 0 → takes us d ≡ eqb (length us) 0
+unfolding takes
+takes_no_cell [] [] e = refl
+takes_no_cell (t ∷ ts) [] e = grind (arith, nat_tests)
+takes_no_cell us (c ∷ r) e = absurd (omega arith)
 
 -- the terms take the row that they are under a value
 value_one_number : (v : Value) (x : ℕ) (ts : List Term) → one_number x (v x) ts (all_at v ts) ≡ true

@@ -1,5 +1,5 @@
 -- What answering from tables says and leaves, case by case. Assumes nothing: these are definitions.
-use Rattle.std.specs.Prelude.{◌≡◌, ℕ, ◌+◌, ◌*◌, ◌<◌, ◌≤◌, ◌⊎◌, List, [], ◌∷◌, length, take, drop, Some, None, Option}
+use Rattle.std.specs.Prelude.{◌≡◌, ℕ, ◌+◌, ◌*◌, ◌<◌, ◌≤◌, ◌⊎◌, List, [], ◌∷◌, length, take, drop, Some, None, Option, Ok, Err, Result}
 use Rattle.std.specs.Option.{option_or}
 use Rattle.question.specs.declared.refusals.Refusal.{Refusal}
 use Rattle.question.specs.declared.refusals.Refusal.TheVariants.{CutShort, NoQuestion, NoReport, NoRoomForQuestion, TooWide, NoRoomForRow, TableTooLarge, NoRoomForTables, NoMemory}
@@ -9,19 +9,19 @@ use Rattle.question.specs.Layout.{question_in}
 use Rattle.question.specs.Tables.{tables_in}
 use Rattle.question.specs.Check.{cut_short, question_refusal}
 use Rattle.join.specs.Order.{Before, cells}
-use Rattle.answer.specs.declared.reply.Answer.{Answer}
-use Rattle.answer.specs.declared.reply.Answer.TheVariants.{Rows, Refused}
+use Rattle.join.specs.RowsOut as join
+use Rattle.join.specs.RowsOut.{Asked, PutOut}
 use Rattle.answer.specs.TableCheck.{tables_short, tables_refusal}
 
 -- the number of an answer: 0, or that of the refusal
-abbrev pub number_of : Answer → ℕ
-number_of (Rows n) = 0
-number_of (Refused e) = number e
+abbrev pub number_of : Result ℕ Refusal → ℕ
+number_of (Ok n) = 0
+number_of (Err e) = number e
 
 -- the values told with it: how many rows, or the refusal's place
-abbrev pub values_of : Answer → List ℕ
-values_of (Rows n) = n ∷ []
-values_of (Refused e) = place e ∷ []
+abbrev pub values_of : Result ℕ Refusal → List ℕ
+values_of (Ok n) = n ∷ []
+values_of (Err e) = place e ∷ []
 
 -- the first refusal that applies before anything is answered: number 1 of the question, of the tables, number 2, number 7
 unfoldable pub answer_refusal : (question tables : List ℕ) → Option Refusal
@@ -82,6 +82,19 @@ RefusedFor question tables before out TooWide = ⊥
 RefusedFor question tables before out (NoRoomForTables n) = ⊥
 
 -- what an answer means
-unfoldable pub Meant : (question tables before out : List ℕ) → Answer → Type 0
-Meant question tables before out (Rows n) = (answer_refusal question tables ≡ None) × AllRows (tables_in tables) (question_in question) before out n
-Meant question tables before out (Refused e) = RefusedFor question tables before out e
+unfoldable pub Meant : (question tables before out : List ℕ) → Result ℕ Refusal → Type 0
+Meant question tables before out (Ok n) = (answer_refusal question tables ≡ None) × AllRows (tables_in tables) (question_in question) before out n
+Meant question tables before out (Err e) = RefusedFor question tables before out e
+
+-- what the join's rows are put out with: how many stand, or that there is no room for the next; without memory nothing is put out
+abbrev pub RowsOut : Asked → (before out : List ℕ) → Result ℕ Refusal → Type 0
+RowsOut q before out (Ok n) = PutOut q before out (Ok n)
+RowsOut q before out (Err (NoRoomForRow n)) = join.Standing q before out n × join.NoRoom q out n
+RowsOut q before out (Err NoMemory) = out ≡ before
+RowsOut q before out (Err (CutShort n)) = ⊥
+RowsOut q before out (Err (NoQuestion n)) = ⊥
+RowsOut q before out (Err (NoReport n)) = ⊥
+RowsOut q before out (Err (NoRoomForQuestion n)) = ⊥
+RowsOut q before out (Err TooWide) = ⊥
+RowsOut q before out (Err (TableTooLarge n)) = ⊥
+RowsOut q before out (Err (NoRoomForTables n)) = ⊥

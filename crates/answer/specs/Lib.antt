@@ -2,8 +2,9 @@ pub mod Plan
 pub mod Copies
 pub mod Laws
 pub mod TableCheck
-pub mod Answered
+pub mod Lent
 pub mod Taking
 pub mod Terms
 pub mod Columns
 pub mod Planning
+pub mod Answered

@@ -1,8 +1,8 @@
 -- The plan that the code's struct is. Assumes nothing: these are definitions.
-use Rattle.std.specs.Prelude.{take}
+use Rattle.std.specs.Prelude.{map}
 use Rattle.answer.specs.Plan.{Plan}
-use Rattle.answer.specs.declared.slots.SlotPlan.{SlotPlan}
+use Rattle.answer.specs.Columns.{orders_of}
+use Rattle.answer.specs.declared.plan.SlotPlan.{SlotPlan}
 
--- only the first lines and the first slots of the row count
 abbrev pub plan_in : SlotPlan → Plan
-plan_in s = record { k = s.k; shown = s.shown; n = s.n; env = s.env; lines = take s.count s.lines; row = take s.width s.row; cols = s.cols }
+plan_in s = record { k = s.setting.k; shown = s.setting.shown; n = s.setting.n; env = s.setting.env; lines = map (λ l. l.slots) s.lines.items; row = s.row.items; cols = orders_of s.lines.items }

@@ -1,10 +1,11 @@
 -- Which rows a line may stand on, and how they are copied for the join: the line's number, the cells in an order of the line's own, then zeros. Assumes nothing: these are definitions.
-use Rattle.std.specs.Prelude.{◌≡◌, ℕ, ◌+◌, ◌<◌, Bool, true, false, cond, ◌&&◌, List, [], ◌∷◌, ◌++◌, length, get_or, drop, ◌==◌, nat_lt, slice_index, slice_index_or}
+use Rattle.std.specs.Prelude.{◌≡◌, ℕ, ◌+◌, ◌<◌, Bool, true, false, cond, ◌&&◌, List, [], ◌∷◌, ◌++◌, length, drop, ◌==◌, nat_lt, slice_index, slice_index_or}
 use Rattle.question.specs.declared.terms.Term.{Term}
 use Rattle.question.specs.declared.terms.Term.TheVariants.{Number, Variable}
 use Rattle.question.specs.Question.{Line, Row, Base}
 use Rattle.question.specs.Tables.{rows_in}
-use Rattle.answer.specs.Plan.{no_line}
+use Rattle.answer.specs.declared.columns.Column.{Column}
+use Rattle.answer.specs.Columns.{order_of}
 
 -- the cells of the variable x all have the number
 unfoldable pub one_number : (x number : ℕ) → List Term → Row → Bool
@@ -42,13 +43,10 @@ unfoldable pub all_copies : Base → (id : ℕ) → List Line → List (List ℕ
 all_copies b id [] cols = []
 all_copies b id (l ∷ ls) cols = copies_of id (slice_index_or cols 0 []) l.cells (b l.table) ++ all_copies b (id + 1) ls (drop 1 cols)
 
--- what a call that may want memory puts behind the rows, if it does not
-abbrev pub Added : Bool → (before more after : List (List ℕ)) → Type 0
-Added ok before more after = ok ≡ true → after ≡ before ++ more
-
--- the first columns of a line's order are columns of the line
+-- the columns of a line's order are columns of the line
 abbrev pub OrderWithin : (cols : List ℕ) (w : ℕ) → Type 0
 OrderWithin cols w = (c : ℕ) → c < w → slice_index cols c < w
 
-abbrev pub OrdersWithin : (cols : List (List ℕ)) → List Line → Type 0
-OrdersWithin cols ls = (i : ℕ) → i < length ls → OrderWithin (slice_index_or cols i []) (length (get_or ls i no_line).cells)
+-- and they are as many as its terms
+abbrev pub FitsLine : List Term → List Column → Type 0
+FitsLine ts cs = (length cs ≡ length ts) × OrderWithin (order_of cs) (length ts)

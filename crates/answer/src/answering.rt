@@ -1,99 +1,67 @@
 // A question answered from lent tables: every row once, in order.
-ghost use Rattle.std.specs.Prelude.{◌≡◌, Some, None, MatchResult};
-ghost use Rattle.question.specs.Check.{question_refusal};
-ghost use Rattle.join.specs.RowsOut.{PutOut};
-ghost use Rattle.answer.specs.declared.reply.Answer.TheVariants.{Rows, Refused};
+ghost use Rattle.std.specs.Prelude.{◌≡◌, Some, None, drop, MatchResult, slice_index};
+ghost use Rattle.question.specs.Layout.{question_in};
+ghost use Rattle.question.specs.Lent.{question_of};
 ghost use Rattle.answer.specs.Plan.{Joinable};
 ghost use Rattle.answer.specs.Planning.{plan_in};
 ghost use Rattle.answer.specs.Laws.{asked_by};
-ghost use Rattle.answer.specs.TableCheck.{tables_refusal};
-ghost use Rattle.answer.specs.Answered.{answer_refusal, Meant};
+ghost use Rattle.answer.specs.Answered.{answer_refusal, RowsOut, Meant};
 
 use super::copies::copy_tables;
-use super::plan::plan;
-use super::reply::Answer;
-use super::slots::SlotPlan;
-use super::tables::{check_tables, whole};
-use join::put_out;
+use super::plan::SlotPlan;
+use super::tables::Tables;
+use join::{Join, NoRoomAfter, Row};
 use narrow::narrow;
-use question::{Refusal, check_question};
-use std::alloc::{AllocError, Global};
+use question::{Question, Refusal};
+use std::alloc::Global;
 
-// How many tables there are, or how the question and the tables are turned away.
-fn checked(question: &[u64], tables: &[u64]) -> Result<usize, Refusal>
+// The question and the tables, or how they are turned away.
+fn checked<'a>(
+    question: &'a [u64],
+    tables: &'a [u64],
+) -> Result<(Question<'a>, Tables<'a>), Refusal>
     ensures { MatchResult result
-        (λ _. (answer_refusal question.now tables.now ≡ None) × (question_refusal question.now ≡ None) × (tables_refusal tables.now ≡ None))
+        (λ p. (answer_refusal question.now tables.now ≡ None) × (question_of p.0 ≡ question_in question.now) × (p.1.count ≡ slice_index tables.now 0) × (p.1.left.now ≡ drop 1 tables.now))
         (λ e. answer_refusal question.now tables.now ≡ Some e) }
 {
     if question.len() < 50 {
         return Err(Refusal::CutShort(question.len() as u64));
     }
-    if !whole(tables) {
-        return Err(Refusal::CutShort(tables.len() as u64));
-    }
-    let asked = check_question(question);
-    let Ok(_lines) = asked else {
-        return asked;
-    };
-    check_tables(tables)
-}
-
-// The refusal of a check that failed.
-fn refused_by(check: Result<usize, Refusal>) -> Answer
-    ensures { MatchResult check (λ n. result ≡ Rows n) (λ e. result ≡ Refused e) }
-{
-    match check {
-        Ok(count) => Answer::Rows(count as u64),
-        Err(refusal) => Answer::Refused(refusal),
-    }
+    let tables = Tables::whole(tables)?;
+    let question = Question::checked(question)?;
+    tables.small()?;
+    Ok((question, tables))
 }
 
 // Puts out the rows that the plan gives over the copied tables, the lines narrowed first.
-fn put_rows(
-    heap: Global,
-    plan: &SlotPlan,
-    rows: Vec<[u64; 5]>,
-    out: &mut [u64],
-) -> Result<Result<usize, usize>, AllocError>
+fn put_rows(heap: Global, plan: &SlotPlan, rows: Vec<Row>, out: &mut [u64]) -> Result<u64, Refusal>
     requires { Joinable (plan_in plan.now) }
-    ensures { MatchResult result
-        (λ put. PutOut (asked_by (plan_in plan.now) rows.items) out.old out.new put)
-        (λ _. out.new ≡ out.old) }
+    ensures { RowsOut (asked_by (plan_in plan.now) rows.items) out.old out.new result }
 {
-    let mut lines = Vec::from_slice(heap, &plan.lines[..plan.count])?;
-    let left = narrow(
-        heap, rows, &mut lines, plan.n, plan.shown, plan.k, &plan.env,
-    )?;
-    let put = put_out(
-        &left,
-        &lines,
-        plan.n,
-        plan.shown,
-        plan.k,
-        &plan.env,
-        &plan.row[..plan.width],
-        out,
-    );
-    Ok(put)
+    let mut lines = plan.slots(heap)?;
+    let left = narrow(heap, rows, &mut lines, &plan.setting)?;
+    let join = Join {
+        rows: &left,
+        lines: &lines,
+        setting: &plan.setting,
+    };
+    match join.put_out(&plan.row, out) {
+        Ok(count) => Ok(count as u64),
+        Err(NoRoomAfter(count)) => Err(Refusal::NoRoomForRow(count as u64)),
+    }
 }
 
-// Answers the question from the tables: every row once, in order, one after another from the front of out.
-pub fn answer(heap: Global, question: &[u64], tables: &[u64], out: &mut [u64]) -> Answer
+// Answers the question from the tables: every row once, in order, one after another from the front of out. It says how many.
+pub fn answer(
+    heap: Global,
+    question: &[u64],
+    tables: &[u64],
+    out: &mut [u64],
+) -> Result<u64, Refusal>
     ensures { Meant question.now tables.now out.old out.new result }
 {
-    let check = checked(question, tables);
-    let Ok(_count) = check else {
-        return refused_by(check);
-    };
-    let plan = plan(question);
-    let Ok(rows) = copy_tables(heap, question, &plan.cols, tables) else {
-        return Answer::Refused(Refusal::NoMemory);
-    };
-    let Ok(put) = put_rows(heap, &plan, rows, out) else {
-        return Answer::Refused(Refusal::NoMemory);
-    };
-    match put {
-        Ok(count) => Answer::Rows(count as u64),
-        Err(count) => Answer::Refused(Refusal::NoRoomForRow(count as u64)),
-    }
+    let (question, tables) = checked(question, tables)?;
+    let plan = SlotPlan::of(&question);
+    let rows = copy_tables(heap, &question, &plan.lines, tables)?;
+    put_rows(heap, &plan, rows, out)
 }

@@ -1,89 +1,102 @@
-// The slots of a line's terms, and its columns in the order of their slots.
-ghost use Rattle.std.specs.Prelude.{◌≡◌, ℕ, ◌+◌, ◌*◌, ◌<◌, ◌≤◌, true, length, take, None, slice_index};
-ghost use Rattle.question.specs.Layout.{terms_in, terms_fit, line_in, line_fits, question_in};
-ghost use Rattle.question.specs.Check.{question_refusal};
+// A question's row and lines as slots, each line's columns in the order of their slots.
+ghost use Rattle.std.specs.Prelude.{◌≡◌, ℕ, ◌+◌, ◌<◌, ◌≤◌, length, map, get_or, slice_index, slice_index_or};
+ghost use Rattle.std.specs.List.{range_with_len};
+ghost use Rattle.question.specs.Lent.{terms_of, line_of, lines_of};
 ghost use Rattle.answer.specs.Terms.{place_in};
-ghost use Rattle.answer.specs.Columns.{Columns, Rising, SlotsOf, slot_by};
+ghost use Rattle.answer.specs.Plan.{places, no_line};
+ghost use Rattle.answer.specs.Columns.{column_at, InOrder, LineInOrder, LineSlots, IsPlannedLine, order_of};
 
-use super::terms::{cells_part, code, first_place, row_part};
-use question::{nth_term, row_width, width};
+use super::codes::Codes;
+use arrayvec::ArrayVec;
+use join::SlotLine;
+use question::{Line, Lines, Terms};
 
-// The slots of w terms.
-fn slots_of(codes: &[u64; 24], n: usize, terms: &[u64], w: usize) -> [usize; 4]
-    requires lent { (2 * w ≤ length terms.now) × (terms_fit 16 w terms.now ≡ true) }
-    requires counts { (w ≤ 4) × (n ≤ 24) }
-    ensures four { length result ≡ 4 }
-    ensures slots { SlotsOf (place_in (take n codes.now)) (terms_in w terms.now) result }
+// A column, and the slot of its term.
+#[derive(Clone, Copy, Default)]
+pub(crate) struct Column {
+    pub(crate) place: usize,
+    pub(crate) slot: usize,
+}
+
+// A line as slots, that of its number first, and its columns in the order of their slots.
+#[derive(Default, Drop)]
+pub(crate) struct PlannedLine {
+    pub(crate) slots: SlotLine,
+    pub(crate) columns: ArrayVec<Column, 4>,
+}
+
+// The slots of the terms of a row.
+pub(crate) fn row_slots(codes: &Codes, terms: Terms<'_, 16>) -> ArrayVec<usize, 4>
+    requires { length (terms_of terms) ≤ 4 }
+    ensures { result.items ≡ places (place_in codes.now.list.items) (terms_of terms.entry) }
 {
-    let mut slots = [0; 4];
-    for c in 0..w {
-        slots[c] = first_place(codes, n, code(nth_term(terms, c)));
+    let mut slots = ArrayVec::new();
+    for term in terms {
+        slots.push(codes.slot(term));
     }
     slots
 }
 
-// The slots of the row.
-pub(crate) fn row_slots(codes: &[u64; 24], n: usize, question: &[u64]) -> [usize; 4]
-    requires { (question_refusal question.now ≡ None) × (n ≤ 24) }
-    ensures four { length result ≡ 4 }
-    ensures slots { SlotsOf (place_in (take n codes.now)) (question_in question.now).row result }
+// The columns of a line's terms as they come.
+fn columns(codes: &Codes, terms: Terms<'_, 16>) -> ArrayVec<Column, 4>
+    requires { length (terms_of terms) ≤ 4 }
+    ensures { result.items ≡ map (column_at (place_in codes.now.list.items) (terms_of terms.entry)) (range_with_len 0 (length (terms_of terms.entry))) }
 {
-    slots_of(codes, n, row_part(question), row_width(question))
+    let mut columns = ArrayVec::new();
+    for (place, term) in terms.enumerate() {
+        let slot = codes.slot(term);
+        columns.push(Column { place, slot });
+    }
+    columns
 }
 
-// The slots of a line's terms.
-pub(crate) fn cell_slots(codes: &[u64; 24], n: usize, line: &[u64]) -> [usize; 4]
-    requires lent { (length line.now ≡ 10) × (line_fits 16 line.now ≡ true) }
-    requires count { n ≤ 24 }
-    ensures few { length (line_in line.now).cells ≤ 4 }
-    ensures slots { SlotsOf (place_in (take n codes.now)) (line_in line.now).cells result }
+// The columns of a line's terms in the order of their slots.
+fn in_order(codes: &Codes, terms: Terms<'_, 16>) -> ArrayVec<Column, 4>
+    requires { length (terms_of terms) ≤ 4 }
+    ensures { InOrder (place_in codes.now.list.items) (terms_of terms.entry) result.items }
 {
-    slots_of(codes, n, cells_part(line), width(line))
+    let mut columns = columns(codes, terms);
+    columns.sort_unstable_by_key(|column| column.slot);
+    columns
 }
 
-// The column with the least slot of those from i on goes to the place i.
-fn least_first(slots: &[usize; 4], cols: &mut [usize; 4], i: usize, w: usize)
-    requires { (w ≤ 4) × ((i < w) × (Columns w cols.old)) }
-    ensures columns { Columns w cols.new }
-    ensures before { (c : ℕ) → c < i → slice_index cols.new c ≡ slice_index cols.old c }
-    ensures least { (c : ℕ) → i ≤ c → c < w → slot_by slots.now cols.new i ≤ slot_by slots.now cols.new c }
-    ensures above { (b : ℕ) → ((c : ℕ) → i ≤ c → c < w → b ≤ slot_by slots.now cols.old c) → (c : ℕ) → i ≤ c → c < w → b ≤ slot_by slots.now cols.new c }
+// The five slots of a line: that of its number, those of its columns, and 0s.
+fn line_slots(id: usize, columns: &[Column]) -> SlotLine
+    requires { length columns.now ≤ 4 }
+    ensures first { slice_index result 0 ≡ id }
+    ensures slots { (c : ℕ) → c < length columns.now → slice_index result (c + 1) ≡ slice_index (map (λ column. column.slot) columns.now) c }
+    ensures zeros { (c : ℕ) → length columns.now ≤ c → c < 4 → slice_index result (c + 1) ≡ 0 }
 {
-    for j in i + 1..w {
-        let here = cols[i];
-        let there = cols[j];
-        if slots[there] < slots[here] {
-            cols[i] = there;
-            cols[j] = here;
+    let mut slots = [id, 0, 0, 0, 0];
+    // Each stands one place later, behind the number's.
+    for (c, column) in columns.iter().enumerate() {
+        slots[c + 1] = column.slot;
+    }
+    slots
+}
+
+impl PlannedLine {
+    // The line with the number id.
+    fn of(codes: &Codes, id: usize, line: &Line<'_, 16>) -> PlannedLine
+        ensures { IsPlannedLine (place_in codes.now.list.items) (line_of line.now).cells id result }
+    {
+        let columns = in_order(codes, line.terms());
+        PlannedLine {
+            slots: line_slots(id, &columns),
+            columns,
         }
     }
 }
 
-// The first w columns in the order of their slots.
-pub(crate) fn by_slot(slots: &[usize; 4], w: usize) -> [usize; 4]
-    requires { w ≤ 4 }
-    ensures four { length result ≡ 4 }
-    ensures columns { Columns w result }
-    ensures rising { Rising slots.now result w }
+// The lines of a question.
+pub(crate) fn planned_lines(codes: &Codes, lines: Lines<'_, 16>) -> ArrayVec<PlannedLine, 4>
+    requires { length (lines_of lines) ≤ 4 }
+    ensures long { length result.items ≡ length (lines_of lines.entry) }
+    ensures each { (i : ℕ) (d : _) → i < length (lines_of lines.entry) → IsPlannedLine (place_in codes.now.list.items) (get_or (lines_of lines.entry) i no_line).cells i (slice_index_or result.items i d) }
 {
-    let mut cols = [0, 1, 2, 3];
-    for i in 0..w {
-        least_first(slots, &mut cols, i, w);
+    let mut slots = ArrayVec::new();
+    for (i, line) in lines.enumerate() {
+        slots.push(PlannedLine::of(codes, i, &line));
     }
-    cols
-}
-
-// The five slots of a line.
-pub(crate) fn line_slots(id: usize, slots: &[usize; 4], cols: &[usize; 4], w: usize) -> [usize; 5]
-    requires { (w ≤ 4) × (Columns w cols.now) }
-    ensures five { length result ≡ 5 }
-    ensures first { slice_index result 0 ≡ id }
-    ensures slots { (c : ℕ) → c < w → slice_index result (c + 1) ≡ slot_by slots.now cols.now c }
-    ensures zeros { (c : ℕ) → w ≤ c → c < 4 → slice_index result (c + 1) ≡ 0 }
-{
-    let mut line = [id, 0, 0, 0, 0];
-    for c in 0..w {
-        line[c + 1] = slots[cols[c]];
-    }
-    line
+    slots
 }

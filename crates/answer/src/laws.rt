@@ -1,8 +1,6 @@
 // Laws of answering: each function's contract is one of them.
 ghost use Rattle.answer.specs.Laws.{PlanAnswers};
 
-pub fn plan_answers() -> u8
+pub fn plan_answers()
     ensures { PlanAnswers }
-{
-    0
-}
+{}

@@ -1,80 +1,173 @@
-// Whether lent tables are whole and small enough, and where not.
-ghost use Rattle.std.specs.Prelude.{◌≡◌, ◌≤◌, true, length, drop, Some, None, MatchResult, nat_le, slice_index};
+// Tables in lent numbers, and whether they are whole and small enough, and where not.
+ghost use Rattle.std.specs.Prelude.{◌≡◌, ◌*◌, ◌<◌, ◌≤◌, true, length, drop, Some, None, MatchOption, MatchResult, slice_index};
+ghost use Rattle.std.specs.Option.{option_map};
+ghost use Rattle.std.specs.Iterator.{YieldsFirstBy, item_count};
+ghost use Rattle.question.specs.declared.refusals.Refusal.TheVariants.{TableTooLarge};
 ghost use Rattle.question.specs.Tables.{table_size};
-ghost use Rattle.answer.specs.TableCheck.{all_there, tables_whole, table_fits, table_fault, tables_refusal};
+ghost use Rattle.answer.specs.TableCheck.{all_there, table_fits, table_fault, tables_short, tables_refusal};
 
 use question::Refusal;
 
-// Whether the first of some tables is all there.
-fn first_there(tables: &[u64]) -> bool
-    ensures { result ≡ nat_le (table_size tables.now) (length tables.now) }
-{
-    if tables.len() < 3 {
-        return false;
+// The rows of a table that are still to come, so many numbers to each.
+#[derive(Clone, Copy)]
+pub(crate) struct Rows<'a> {
+    left: &'a [u64],
+    columns: usize,
+    count: usize,
+    ghost room: { count * columns ≤ length left.now },
+}
+
+impl<'a> Iterator for Rows<'a> {
+    type Item = &'a [u64];
+
+    ghost use Rattle.answer.specs.Lent.{rows_of};
+
+    ghost next_gives = { YieldsFirstBy (λ r. r.now) rows_of };
+
+    ghost remaining = { item_count rows_of };
+
+    fn next(&mut self) -> Option<&'a [u64]> {
+        self.count = self.count.checked_sub(1)?;
+        let (row, left) = self.left.split_at(self.columns);
+        self.left = left;
+        Some(row)
     }
-    let room = (tables.len() - 3) as u64;
-    let Some(cells) = tables[1].checked_mul(tables[2]) else {
-        return false;
-    };
-    cells <= room
 }
 
-// What lies behind the first of some tables, which is all there.
-pub(crate) fn behind_first(tables: &[u64]) -> &[u64]
-    requires { table_size tables.now ≤ length tables.now }
-    ensures { result.now ≡ drop (table_size tables.now) tables.now }
-{
-    let cells = (tables[1] * tables[2]) as usize;
-    &tables[3 + cells..]
+// A table: the part of a slice that it begins.
+#[derive(Clone, Copy)]
+pub(crate) struct Table<'a> {
+    numbers: &'a [u64],
+    ghost there: { table_size numbers.now ≤ length numbers.now },
 }
 
-// Whether n tables are all there.
-fn all_there(tables: &[u64], n: usize) -> bool
-    ensures { result ≡ all_there n tables.now }
-{
-    let mut rest = tables;
-    for _i in 0..n {
-        let there = first_there(rest);
-        if !there {
-            return false;
+impl<'a> Table<'a> {
+    ghost use Rattle.answer.specs.Lent.{rows_of, held_by};
+
+    // The table that the numbers begin with, if it is all there.
+    fn first_of(numbers: &'a [u64]) -> Option<Table<'a>>
+        ensures { MatchOption result (length numbers.now < table_size numbers.now) (λ t. t.numbers.now ≡ numbers.now) }
+    {
+        let [_, count, columns, cells @ ..] = numbers else {
+            return None;
+        };
+        let size = count.checked_mul(*columns)?;
+        if size > cells.len() as u64 {
+            return None;
         }
-        rest = behind_first(rest);
+        Some(Table { numbers })
+    }
+
+    // The table that it is.
+    pub(crate) fn number(&self) -> u64
+        ensures { result ≡ slice_index self.now.numbers.now 0 }
+    {
+        self.numbers[0]
+    }
+
+    // Its rows.
+    pub(crate) fn rows(&self) -> Rows<'a>
+        ensures { rows_of result ≡ held_by self.now }
+    {
+        let numbers = self.numbers;
+        Rows {
+            left: &numbers[3..],
+            columns: numbers[2] as usize,
+            count: numbers[1] as usize,
+        }
+    }
+
+    // Whether it is small enough.
+    fn is_small(&self) -> bool
+        ensures { result ≡ table_fits self.now.numbers.now }
+    {
+        self.numbers[1] <= 4096 && self.numbers[2] <= 4
+    }
+
+    // What lies behind it.
+    fn behind(&self) -> &'a [u64]
+        ensures { result.now ≡ drop (table_size self.now.numbers.now) self.now.numbers.now }
+    {
+        let numbers = self.numbers;
+        let cells = (numbers[1] * numbers[2]) as usize;
+        &numbers[3 + cells..]
+    }
+}
+
+// Whether so many tables are all there.
+fn all_there(numbers: &[u64], count: usize) -> bool
+    ensures { result ≡ all_there count numbers.now }
+{
+    let mut rest = numbers;
+    for _ in 0..count {
+        let Some(table) = Table::first_of(rest) else {
+            return false;
+        };
+        rest = table.behind();
     }
     true
 }
 
-// Whether the first of some tables, which is all there, is small enough.
-fn fits(tables: &[u64]) -> bool
-    requires { table_size tables.now ≤ length tables.now }
-    ensures { result ≡ table_fits tables.now }
-{
-    tables[1] <= 4096 && tables[2] <= 4
+// Tables that are still to come, all there, one after another in lent numbers.
+#[derive(Clone, Copy)]
+pub(crate) struct Tables<'a> {
+    left: &'a [u64],
+    count: usize,
+    ghost there: { all_there count left.now ≡ true },
 }
 
-// The first of n tables that is too large.
-fn first_large(tables: &[u64], n: usize) -> Option<u64>
-    requires { all_there n tables.now ≡ true }
-    ensures { result ≡ table_fault n 0 tables.now }
-{
-    let mut rest = tables;
-    for i in 0..n {
-        let small = fits(rest);
-        if !small {
-            return Some(i as u64);
+impl<'a> Tables<'a> {
+    ghost use Rattle.answer.specs.Lent.{tables_of};
+
+    // The lent tables, or that they are cut short or too many.
+    pub(crate) fn whole(numbers: &'a [u64]) -> Result<Tables<'a>, Refusal>
+        ensures { MatchResult result
+            (λ t. (tables_short numbers.now ≡ None) × (t.count ≡ slice_index numbers.now 0) × (t.left.now ≡ drop 1 numbers.now))
+            (λ e. tables_short numbers.now ≡ Some e) }
+    {
+        let short = Refusal::CutShort(numbers.len() as u64);
+        let Some((count, left)) = numbers.split_first() else {
+            return Err(short);
+        };
+        if *count > 16 || !all_there(left, *count as usize) {
+            return Err(short);
         }
-        rest = behind_first(rest);
+        Ok(Tables {
+            left,
+            count: *count as usize,
+        })
     }
-    None
+
+    // How many there are, or how the first that is too large turns them away.
+    pub(crate) fn small(self) -> Result<usize, Refusal>
+        ensures { MatchResult result
+            (λ n. (table_fault self.entry.count 0 self.entry.left.now ≡ None) × (n ≡ self.entry.count))
+            (λ e. option_map TableTooLarge (table_fault self.entry.count 0 self.entry.left.now) ≡ Some e) }
+    {
+        for (i, table) in self.enumerate() {
+            if !table.is_small() {
+                return Err(Refusal::TableTooLarge(i as u64));
+            }
+        }
+        Ok(self.count)
+    }
 }
 
-// Whether there is a count of at most sixteen, and that many tables are all there.
-pub(crate) fn whole(tables: &[u64]) -> bool
-    ensures { result ≡ tables_whole tables.now }
-{
-    if tables.is_empty() || tables[0] > 16 {
-        return false;
+impl<'a> Iterator for Tables<'a> {
+    type Item = Table<'a>;
+
+    ghost use Rattle.answer.specs.Lent.{tables_of};
+
+    ghost next_gives = { YieldsFirstBy (λ t. t.numbers.now) tables_of };
+
+    ghost remaining = { item_count tables_of };
+
+    fn next(&mut self) -> Option<Table<'a>> {
+        self.count = self.count.checked_sub(1)?;
+        let table = Table { numbers: self.left };
+        self.left = table.behind();
+        Some(table)
     }
-    all_there(&tables[1..], tables[0] as usize)
 }
 
 // How many tables are lent, or how they are turned away.
@@ -83,13 +176,5 @@ pub fn check_tables(tables: &[u64]) -> Result<usize, Refusal>
         (λ n. (tables_refusal tables.now ≡ None) × (n ≡ slice_index tables.now 0))
         (λ e. tables_refusal tables.now ≡ Some e) }
 {
-    if !whole(tables) {
-        return Err(Refusal::CutShort(tables.len() as u64));
-    }
-    let count = tables[0] as usize;
-    let large = first_large(&tables[1..], count);
-    let None = large else {
-        return Err(Refusal::TableTooLarge(large.unwrap_or(0)));
-    };
-    Ok(count)
+    Tables::whole(tables)?.small()
 }

@@ -3,10 +3,11 @@ ghost use Rattle.std.specs.Prelude.{◌≡◌, [], ◌∷◌};
 ghost use Rattle.answer.specs.Answered.{number_of, values_of};
 ghost use Rattle.answer_c.specs.Told.{ToldOf};
 
-use answer::{Answer, answer};
+use answer::answer;
+use question::Refusal;
 use std::alloc::Global;
 
-// What is told: 0 and how many rows, or the refusal's number and its place.
+// What is told: 0 and how many rows, or the refusal's number and its place. It stays beside Result for the C interface.
 #[repr(C)]
 pub struct Told {
     pub number: u64,
@@ -14,15 +15,15 @@ pub struct Told {
 }
 
 // An answer as two numbers.
-fn as_numbers(answer: Answer) -> Told
+fn as_numbers(answer: Result<u64, Refusal>) -> Told
     ensures { (result.number ≡ number_of answer) × ((result.value ∷ []) ≡ values_of answer) }
 {
     match answer {
-        Answer::Rows(count) => Told {
+        Ok(count) => Told {
             number: 0,
             value: count,
         },
-        Answer::Refused(refusal) => Told {
+        Err(refusal) => Told {
             number: refusal.number(),
             value: refusal.place(),
         },

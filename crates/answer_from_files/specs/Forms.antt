@@ -1,22 +1,9 @@
--- What a question and tables from files are to answering: numbers in a row, or a refusal. Assumes nothing: these are definitions.
-use Rattle.std.specs.Prelude.{ℕ, cond, List, [], ◌∷◌, ◌++◌, length, Some, None, vec_items, Option, nat_le}
+-- Why a question from a file may not be asked of tables from files. Assumes nothing: these are definitions.
+use Rattle.std.specs.Prelude.{ℕ, cond, List, length, Some, None, Option, nat_le}
 use Rattle.question.specs.declared.refusals.Refusal.{Refusal}
 use Rattle.question.specs.declared.refusals.Refusal.TheVariants.{CutShort}
 use Rattle.question.specs.Check.{question_refusal}
 use Rattle.wire.specs.Bytes.{question_of}
-use Rattle.answer_from_files.specs.declared.lent.Numbered.{Numbered}
-
--- a table in numbers: its own number, its rows and columns, and its cells row by row
-abbrev pub table_numbers : Numbered → List ℕ
-table_numbers t = t.number ∷ t.table.rows ∷ t.table.columns ∷ vec_items t.table.cells
-
-unfoldable pub tables_numbers : List Numbered → List ℕ
-tables_numbers [] = []
-tables_numbers (t ∷ ts) = table_numbers t ++ tables_numbers ts
-
--- the lent form: the count of the tables, then all of them
-abbrev pub lent_numbers : List Numbered → List ℕ
-lent_numbers ts = length ts ∷ tables_numbers ts
 
 -- the first refusal that there is
 abbrev pub or_else : Option Refusal → Option Refusal → Option Refusal

@@ -14,8 +14,7 @@ pub fn asked(bytes: &[u8], count: usize, length: usize) -> Result<[u64; 50], Ref
 {
     let question = read_question(bytes)?;
     check_question(&question)?;
-    let many = count > 16;
-    if many {
+    if count > 16 {
         return Err(Refusal::CutShort(length as u64));
     }
     Ok(question)

@@ -10,24 +10,11 @@ pub fn n(number: u32) -> Term {
     Term::Number(number)
 }
 
-// The kind and the number that a term is lent as.
-fn numbers(term: Term) -> (u64, u64) {
-    match term {
-        Term::Number(n) => (0, u64::from(n)),
-        Term::Variable(x) => (1, u64::from(x)),
-    }
-}
-
-// Puts terms from a place on; those that have no room are left out.
-fn put(question: &mut [u64; 50], at: usize, terms: &[Term]) {
-    let mut place = at;
-    for term in terms {
-        if place < 49 {
-            let (kind, number) = numbers(*term);
-            question[place] = kind;
-            question[place + 1] = number;
-            place += 2;
-        }
+// Writes terms, as many as there is room for.
+fn put(room: &mut [u64], terms: &[Term]) {
+    for (place, term) in room.as_chunks_mut().0.iter_mut().zip(terms) {
+        let (kind, number) = term.numbers();
+        *place = [kind, number];
     }
 }
 
@@ -35,20 +22,19 @@ fn put(question: &mut [u64; 50], at: usize, terms: &[Term]) {
 pub fn row(terms: &[Term]) -> [u64; 50] {
     let mut question = [0; 50];
     question[0] = terms.len() as u64;
-    put(&mut question, 1, terms);
+    put(&mut question[1..9], terms);
     question
 }
 
 // The question with a line more.
-pub fn line(question: [u64; 50], table: u64, terms: &[Term]) -> [u64; 50] {
-    let mut more = question;
-    let count = question[9];
+pub fn line(mut question: [u64; 50], table: u64, terms: &[Term]) -> [u64; 50] {
+    let count = question[9] as usize;
     if count < 4 {
-        let start = 10 + 10 * count as usize;
-        more[9] = count + 1;
-        more[start] = table;
-        more[start + 1] = terms.len() as u64;
-        put(&mut more, start + 2, terms);
+        question[9] += 1;
+        let line = &mut question[10 + 10 * count..20 + 10 * count];
+        line[0] = table;
+        line[1] = terms.len() as u64;
+        put(&mut line[2..], terms);
     }
-    more
+    question
 }

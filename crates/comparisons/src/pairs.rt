@@ -12,20 +12,13 @@ fn show(
     size: usize,
 ) -> io::Result<()> {
     let mut all = [7; 64];
-    let room = if size < 64 {
-        &mut all[0..size]
-    } else {
-        &mut all[0..64]
-    };
-    match within(first, second, room) {
-        Containment::Within => println!(rt; "{name}: within"),
-        Containment::Refused(refusal) => println!(rt; "{name}: {refusal}"),
-        Containment::Apart(count) => {
+    match within(first, second, &mut all[..size.min(64)]) {
+        Err(refusal) => println!(rt; "{name}: {refusal}"),
+        Ok(Containment::Within) => println!(rt; "{name}: within"),
+        Ok(Containment::Apart(count)) => {
             print!(rt; "{name}: apart, by the tables")?;
-            for (i, cell) in all.iter().enumerate() {
-                if (i as u64) < count {
-                    print!(rt; " {cell}")?;
-                }
+            for cell in all.iter().take(count as usize) {
+                print!(rt; " {cell}")?;
             }
             println!(rt; "")
         }

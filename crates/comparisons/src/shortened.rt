@@ -1,22 +1,17 @@
 // The least question that says the same.
 use super::draft::{line, row, x};
 use super::pairs::fourth;
-use minimization::{Least, least};
+use minimization::least;
 use std::io;
 
 // What is said of a question, and the tables and terms of the lines that are left.
 fn show(rt: &HostRuntime, name: &str, question: &[u64], size: usize) -> io::Result<()> {
     let mut all = [7; 52];
-    let out = if size < 52 {
-        &mut all[0..size]
-    } else {
-        &mut all[0..52]
-    };
-    match least(question, out) {
-        Least::Refused(refusal) => println!(rt; "{name}: {refusal}"),
-        Least::Lines(count) => {
+    match least(question, &mut all[..size.min(52)]) {
+        Err(refusal) => println!(rt; "{name}: {refusal}"),
+        Ok(count) => {
             print!(rt; "{name}: {count} lines,")?;
-            for number in all.iter() {
+            for number in all {
                 print!(rt; " {number}")?;
             }
             println!(rt; "")
@@ -26,12 +21,9 @@ fn show(rt: &HostRuntime, name: &str, question: &[u64], size: usize) -> io::Resu
 
 // Lines of table 3 over pairs of variables, with x0 for a row.
 fn chain(pairs: &[(u8, u8)]) -> [u64; 50] {
-    let mut question = row(&[x(0)]);
-    for pair in pairs {
-        let more = line(question, 3, &[x(pair.0), x(pair.1)]);
-        question = more;
-    }
-    question
+    pairs.iter().fold(row(&[x(0)]), |question, (a, b)| {
+        line(question, 3, &[x(*a), x(*b)])
+    })
 }
 
 pub fn show_all(rt: &HostRuntime) -> io::Result<()> {

@@ -5,7 +5,8 @@ use Rattle.question.specs.declared.terms.Term.{Term}
 use Rattle.question.specs.declared.terms.Term.TheVariants.{Number, Variable}
 use Rattle.question.specs.Sound.{TermWithin}
 use Rattle.containment.specs.Search.{term_eqb, Part, match_var, match_term}
-use Rattle.containment.specs.Coding.{code, decode, Codes, part_of}
+use Rattle.question.specs.Layout.{code, Codes}
+use Rattle.containment.specs.Coding.{decode, part_of}
 use Rattle.containment.proofs.Coding.{decode-code, part_set}
 use Rattle.containment.proofs.Searching.{term_eqb_true}
 
@@ -26,7 +27,7 @@ term_eqb-other s t h = go (term_eqb s t) refl
     go false e = refl
 
 -- what is not put, and what is put: a term with that code
-decode_past : (k : ℕ) → 8589934592 ≤ k → decode k ≡ None
+pub decode_past : (k : ℕ) → 8589934592 ≤ k → decode k ≡ None
 unfolding decode
 decode_past k h = let a : 4294967296 ≤ k = omega arith in rw (le-ltb k 4294967296 a, le-ltb k 8589934592 h)
 

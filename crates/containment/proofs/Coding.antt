@@ -5,7 +5,8 @@ use borrow.Author.Tests.{eqb-false}
 use Rattle.question.specs.declared.terms.Term.{Term}
 use Rattle.question.specs.declared.terms.Term.TheVariants.{Number, Variable}
 use Rattle.containment.specs.Search.{nothing, put_one}
-use Rattle.containment.specs.Coding.{code, not_put, decode, Codes, part_of}
+use Rattle.question.specs.Layout.{code, Codes}
+use Rattle.containment.specs.Coding.{not_put, decode, part_of}
 
 pub decode-code : (t : Term) → Codes t → decode (code t) ≡ Some t
 unfolding decode code

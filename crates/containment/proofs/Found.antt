@@ -13,11 +13,12 @@ pub rows_match : (q p : Question) (s : Part) → match_terms nothing q.row p.row
 unfolding first_reading
 rows_match q p s e = rw e
 
+-- something is told where there is something
+pub told-or-not : (o : Option Reading) → is_some o ≡ is_some (told o)
+told-or-not None = refl
+told-or-not (Some r) = refl
+
 -- what is told tells whether the question can be read
 pub told-can_read : (q p : Question) (o : Option Reading) → told o ≡ first_reading q p → is_some o ≡ can_read q p
 unfolding can_read
 told-can_read q p o e = told-or-not o ∙ ap is_some e
-  where
-    told-or-not : (o : Option Reading) → is_some o ≡ is_some (told o)
-    told-or-not None = refl
-    told-or-not (Some r) = refl

@@ -17,6 +17,7 @@ pub mod Firsts
 pub mod OwnNumbers
 pub mod Telling
 pub mod Turns
+pub mod Same
 pub mod Numbered
 pub mod Placed
 pub mod Stuck

@@ -1,5 +1,5 @@
 -- The number and the values of an answer.
-use Rattle.std.proofs.Common.{◌≡◌, ℕ, Bool, true, false, List, Some, None, Option, sym, refl, subst}
+use Rattle.std.proofs.Common.{◌≡◌, ℕ, Bool, true, false, List, Some, None, Option, Result, sym, refl, subst}
 use Rattle.question.specs.declared.refusals.Refusal.{Refusal}
 use Rattle.question.specs.Layout.{question_in}
 use Rattle.containment.specs.declared.answer.Containment.{Containment}
@@ -10,8 +10,8 @@ by-reading : (b : Bool) (first second room : List ℕ) → (number_of (told_by b
 by-reading true first second room = (refl, refl)
 by-reading false first second room = (refl, refl)
 
-pub numbered : (o : Option Refusal) (first second room : List ℕ) (r : Containment) → r ≡ (within_says o first second room).0 → Numbered r o first second
-numbered o first second room r e = subst (λ (a : Containment). Numbered a o first second) (sym e) (go o)
+pub numbered : (o : Option Refusal) (first second room : List ℕ) (r : Result Containment Refusal) → r ≡ (within_says o first second room).0 → Numbered r o first second
+numbered o first second room r e = subst (λ (a : Result Containment Refusal). Numbered a o first second) (sym e) (go o)
   where
     go : (o : Option Refusal) → Numbered (within_says o first second room).0 o first second
     go (Some e) = record { number = refl; values = refl }

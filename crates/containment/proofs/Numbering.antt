@@ -1,7 +1,7 @@
 -- Whether terms and lines name a number, turn by turn.
-use Rattle.std.proofs.Common.{◌≡◌, ℕ, ◌+◌, ◌<◌, ◌≤◌, true, false, cond, eqb, ◌≢◌, List, ◌∷◌, ◌++◌, length, get_or, drop, set, refl, ap, ◌∙◌, arith, below_more, eq-eqb}
-use Rattle.std.proofs.lemmas.Bool.Decides.{nat_tests}
-use Rattle.std.proofs.lemmas.List.{drop_all, get_or-set_same, get_or-set_other, length-set}
+use Rattle.std.proofs.Common.{◌≡◌, ℕ, ◌+◌, ◌<◌, true, false, cond, ◌||◌, eqb, ◌≢◌, List, [], ◌∷◌, ◌++◌, length, get_or, set, refl, ap, ◌∙◌, arith, below_more}
+use Rattle.std.proofs.lemmas.List.{get_or-set_same, get_or-set_other, length-set}
+use Rattle.std.specs.List.{list_any}
 use Rattle.question.specs.declared.terms.Term.{Term}
 use Rattle.question.specs.declared.terms.Term.TheVariants.{Number, Variable}
 use Rattle.question.specs.Question.{Line, Question}
@@ -9,38 +9,21 @@ use Rattle.question.specs.Sound.{has}
 use Rattle.question.proofs.Standing.{has-append}
 use Rattle.containment.specs.OwnTables.{numbers, line_numbers, question_numbers}
 
--- terms: a variable, the number, another number, and the end
-pub names_variable : (n i : ℕ) (ts : List Term) (x : ℕ) → drop i ts ≡ Variable x ∷ drop (i + 1) ts → has (numbers (drop i ts)) n ≡ has (numbers (drop (i + 1) ts)) n
-unfolding numbers
-names_variable n i ts x e = ap (λ (us : List Term). has (numbers us) n) e
-
-pub names_found : (n i : ℕ) (ts : List Term) → drop i ts ≡ Number n ∷ drop (i + 1) ts → has (numbers (drop i ts)) n ≡ true
+-- terms name the number if one of them, alone, does
+pub names-any : (n : ℕ) (ts : List Term) → list_any (λ t. has (numbers (t ∷ [])) n) ts ≡ has (numbers ts) n
 unfolding numbers has
-names_found n i ts e = ap (λ (us : List Term). has (numbers us) n) e ∙ rw (eq-eqb n n refl)
-
-pub names_other : (n m i : ℕ) (ts : List Term) → drop i ts ≡ Number m ∷ drop (i + 1) ts → (m ≡ n → ⊥) → has (numbers (drop i ts)) n ≡ has (numbers (drop (i + 1) ts)) n
-unfolding numbers has
-names_other n m i ts e h = let f : eqb m n ≡ false = grind (arith, nat_tests) in ap (λ (us : List Term). has (numbers us) n) e ∙ rw f
-
-pub names_no_more : (n i : ℕ) (ts : List Term) → length ts ≤ i → has (numbers (drop i ts)) n ≡ false
-unfolding numbers has
-names_no_more n i ts h = ap (λ (us : List Term). has (numbers us) n) (drop_all i ts h)
+names-any n [] = refl
+names-any n (Variable x ∷ ts) = names-any n ts
+names-any n (Number m ∷ ts) = elim (eqb m n) as (λ b. (cond b true false || list_any (λ t. has (numbers (t ∷ [])) n) ts) ≡ cond b true (has (numbers ts) n)) [ true ↦ refl | false ↦ names-any n ts ]
 
 -- lines
-names_line : (n i : ℕ) (ls : List Line) (l : Line) → drop i ls ≡ l ∷ drop (i + 1) ls
-    → has (line_numbers (drop i ls)) n ≡ cond (has (numbers l.cells) n) true (has (line_numbers (drop (i + 1) ls)) n)
+pub names_line : (n : ℕ) (ls : List Line) (l : Line) (ms : List Line) → ls ≡ l ∷ ms → has (line_numbers ls) n ≡ cond (has (numbers l.cells) n) true (has (line_numbers ms) n)
 unfolding line_numbers
-names_line n i ls l e = ap (λ (ms : List Line). has (line_numbers ms) n) e ∙ has-append (numbers l.cells) (line_numbers (drop (i + 1) ls)) n
+names_line n ls l ms e = ap (λ (ns : List Line). has (line_numbers ns) n) e ∙ has-append (numbers l.cells) (line_numbers ms) n
 
-pub names_line-found : (n i : ℕ) (ls : List Line) (l : Line) → drop i ls ≡ l ∷ drop (i + 1) ls → has (numbers l.cells) n ≡ true → has (line_numbers (drop i ls)) n ≡ true
-names_line-found n i ls l e f = names_line n i ls l e ∙ rw f
-
-pub names_line-other : (n i : ℕ) (ls : List Line) (l : Line) → drop i ls ≡ l ∷ drop (i + 1) ls → has (numbers l.cells) n ≡ false → has (line_numbers (drop i ls)) n ≡ has (line_numbers (drop (i + 1) ls)) n
-names_line-other n i ls l e f = names_line n i ls l e ∙ rw f
-
-pub names_no_line : (n i : ℕ) (ls : List Line) → length ls ≤ i → has (line_numbers (drop i ls)) n ≡ false
+pub names_no_line : (n : ℕ) (ls : List Line) → ls ≡ [] → has (line_numbers ls) n ≡ false
 unfolding line_numbers has
-names_no_line n i ls h = ap (λ (ms : List Line). has (line_numbers ms) n) (drop_all i ls h)
+names_no_line n ls e = rw e refl
 
 -- a question, and two
 pub names_question : (q : Question) (n : ℕ) → has (question_numbers q) n ≡ cond (has (numbers q.row) n) true (has (line_numbers q.lines) n)

@@ -1,25 +1,24 @@
 -- A line that has no place alone has none in a reading.
-use Rattle.std.proofs.Common.{◌≡◌, ℕ, ◌+◌, ◌≤◌, Bool, true, false, ◌&&◌, List, [], ◌∷◌, length, drop, is_some, Some, None, Option, sym, refl, ap, ◌∙◌}
+use Rattle.std.proofs.Common.{◌≡◌, ℕ, Bool, true, false, ◌&&◌, List, [], ◌∷◌, is_some, Some, None, Option, sym, refl, ap, ◌∙◌}
 use borrow.Author.Tests.{clash}
-use Rattle.std.proofs.lemmas.List.{drop_all}
 use Rattle.question.specs.declared.terms.Term.{Term}
 use Rattle.question.specs.Question.{Line, In}
 use Rattle.containment.specs.Reading.{line_put, Into}
 use Rattle.containment.specs.Search.{Part, try_lines, read_lines, all_placed, filling}
 use Rattle.containment.proofs.Searching.{Ext, Finds, try_finds, read_finds, filled}
 
--- the loops' turns
-pub placed_next : (ls ms : List Line) (s : Part) (i : ℕ) (l : Line) → drop i ls ≡ l ∷ drop (i + 1) ls → is_some (try_lines Some ms l s) ≡ true → all_placed (drop i ls) ms s ≡ all_placed (drop (i + 1) ls) ms s
+-- the line that comes next has a place, has none, and none comes
+pub placed_next : (ks ms : List Line) (s : Part) (l : Line) (ls : List Line) → ks ≡ l ∷ ls → is_some (try_lines Some ms l s) ≡ true → all_placed ks ms s ≡ all_placed ls ms s
 unfolding all_placed
-placed_next ls ms s i l d e = ap (λ (x : List Line). all_placed x ms s) d ∙ ap (λ (b : Bool). b && all_placed (drop (i + 1) ls) ms s) e
+placed_next ks ms s l ls d e = ap (λ (x : List Line). all_placed x ms s) d ∙ ap (λ (b : Bool). b && all_placed ls ms s) e
 
-pub placed_stop : (ls ms : List Line) (s : Part) (i : ℕ) (l : Line) → drop i ls ≡ l ∷ drop (i + 1) ls → is_some (try_lines Some ms l s) ≡ false → all_placed (drop i ls) ms s ≡ false
+pub placed_stop : (ks ms : List Line) (s : Part) (l : Line) (ls : List Line) → ks ≡ l ∷ ls → is_some (try_lines Some ms l s) ≡ false → all_placed ks ms s ≡ false
 unfolding all_placed
-placed_stop ls ms s i l d e = ap (λ (x : List Line). all_placed x ms s) d ∙ ap (λ (b : Bool). b && all_placed (drop (i + 1) ls) ms s) e
+placed_stop ks ms s l ls d e = ap (λ (x : List Line). all_placed x ms s) d ∙ ap (λ (b : Bool). b && all_placed ls ms s) e
 
-pub placed_end : (ls ms : List Line) (s : Part) (i : ℕ) → length ls ≤ i → all_placed (drop i ls) ms s ≡ true
+pub placed_end : (ks ms : List Line) (s : Part) → ks ≡ [] → all_placed ks ms s ≡ true
 unfolding all_placed
-placed_end ls ms s i h = ap (λ (x : List Line). all_placed x ms s) (drop_all i ls h)
+placed_end ks ms s e = ap (λ (x : List Line). all_placed x ms s) e
 
 has-place : (ms : List Line) (l : Line) (s : Part) (h : ℕ → Term) → Ext h s → In (line_put h l) ms → is_some (try_lines Some ms l s) ≡ true
 has-place ms l s h e i = go (try_lines Some ms l s) (try_finds Some ms l s (λ _. Unit {0}) (λ r g x. (x, tt)))

@@ -1,5 +1,5 @@
 -- Where one term can't be put, the terms can't.
-use Rattle.std.proofs.Common.{◌≡◌, ℕ, zero, suc, ◌+◌, List, [], ◌∷◌, drop, Some, None, Option, sym, refl, ap, ◌∙◌, subst}
+use Rattle.std.proofs.Common.{◌≡◌, ℕ, zero, suc, List, [], ◌∷◌, drop, Some, None, Option, sym, refl, ap, ◌∙◌, subst}
 use Rattle.question.specs.declared.terms.Term.{Term}
 use Rattle.containment.specs.Reading.{put, all_put}
 use Rattle.containment.specs.Search.{Part, match_term, match_terms, filling}
@@ -15,11 +15,11 @@ first_of : (h : ℕ → Term) (t c : Term) (ts cs : List Term) → all_put h (t 
 unfolding all_put
 first_of h t c ts cs e = cc e
 
-pub stuck : (s : Part) (i : ℕ) (ts cs : List Term) (t c : Term) → drop i ts ≡ t ∷ drop (i + 1) ts → drop i cs ≡ c ∷ drop (i + 1) cs → match_term s t c ≡ None → match_terms s ts cs ≡ None
-stuck s i ts cs t c d e n = go (match_terms s ts cs) (exact_terms s ts cs)
+pub stuck : (s : Part) (i : ℕ) (ts cs : List Term) (t c : Term) (us ds : List Term) → drop i ts ≡ t ∷ us → drop i cs ≡ c ∷ ds → match_term s t c ≡ None → match_terms s ts cs ≡ None
+stuck s i ts cs t c us ds d e n = go (match_terms s ts cs) (exact_terms s ts cs)
   where
     never : (h : ℕ → Term) → all_put h ts ≡ cs → put h t ≡ c
-    never h a = first_of h t c (drop (i + 1) ts) (drop (i + 1) cs) (ap (all_put h) (sym d) ∙ put-behind h i ts ∙ ap (λ (xs : List Term). drop i xs) a ∙ e)
+    never h a = first_of h t c us ds (ap (all_put h) (sym d) ∙ put-behind h i ts ∙ ap (λ (xs : List Term). drop i xs) a ∙ e)
 
     go : (o : Option Part) → Exact o s (λ h. all_put h ts ≡ cs) → o ≡ None
     go None f = refl

@@ -1,5 +1,5 @@
 -- What is told of two questions is so: the numbers in the room, and what they mean.
-use Rattle.std.proofs.Common.{◌≡◌, ℕ, ◌<◌, ◌≤◌, true, false, cond, eqb, ltb, List, [], ◌∷◌, ◌++◌, length, get_or, drop, None, sym, refl, ap, ◌∙◌, ap₂, arith}
+use Rattle.std.proofs.Common.{◌≡◌, ℕ, ◌<◌, ◌≤◌, true, false, cond, eqb, ltb, List, [], ◌∷◌, ◌++◌, length, get_or, drop, None, Ok, sym, refl, ap, ◌∙◌, ap₂, arith}
 use borrow.Author.Tests.{clash}
 use Rattle.question.specs.declared.terms.Term.TheVariants.{Variable}
 use Rattle.question.specs.Question.{Line, Question, Row, Value, all_at, In, Within}
@@ -70,14 +70,10 @@ unrefused first second room a b h =
     let cr : ltb (length room) 64 ≡ false = grind (arith, nat_tests) in
     rw (cf, cs, a, b, cr)
 
--- what is said where the second can be read into the first, and where it can't
-pub says_within : (first second room : List ℕ) → question_refusal first ≡ None → question_refusal second ≡ None → 64 ≤ length room → can_read (question_in second) (question_in first) ≡ true
-    → within_says (within_refusal first second room) first second room ≡ (answer.Within, room)
-says_within first second room a b h e = rw (unrefused first second room a b h, e)
-
+-- what is said where the second can't be read into the first
 pub says_apart : (first second room vs : List ℕ) → question_refusal first ≡ None → question_refusal second ≡ None → 64 ≤ length room → can_read (question_in second) (question_in first) ≡ false
     → ((x : ℕ) → x < 16 → get_or vs x 0 ≡ naming (question_in first) (question_in second) x)
     → within_says (within_refusal first second room) first second room
-    ≡ (answer.Apart (length (tables_out (value_in vs) (question_in first))), tables_out (value_in vs) (question_in first) ++ drop (length (tables_out (value_in vs) (question_in first))) room)
+    ≡ (Ok (answer.Apart (length (tables_out (value_in vs) (question_in first)))), tables_out (value_in vs) (question_in first) ++ drop (length (tables_out (value_in vs) (question_in first))) room)
 says_apart first second room vs a b h e f =
     rw (unrefused first second room a b h, e, names_tables vs (question_in first) (question_in second) (allowed first a) f)

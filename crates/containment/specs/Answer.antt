@@ -1,5 +1,5 @@
 -- What `within` answers and leaves in the room, and what that means. Assumes nothing: these are definitions.
-use Rattle.std.specs.Prelude.{◌≡◌, ℕ, Bool, cond, List, [], ◌∷◌, ◌++◌, length, drop, Some, None, Option, nat_lt}
+use Rattle.std.specs.Prelude.{◌≡◌, ℕ, Bool, cond, List, [], ◌∷◌, ◌++◌, length, drop, Some, None, Option, Ok, Err, Result, nat_lt}
 use Rattle.std.specs.Option.{option_or}
 use Rattle.question.specs.declared.refusals.Refusal.{Refusal}
 use Rattle.question.specs.declared.refusals.Refusal.TheVariants.{NoRoomForTables}
@@ -15,16 +15,15 @@ use Rattle.containment.specs.OwnTables.{naming}
 use Rattle.containment.specs.OwnNumbers.{tables_out}
 
 -- the number of an answer: 0, or that of the refusal
-abbrev pub number_of : Containment → ℕ
-number_of answer.Within = 0
-number_of (answer.Apart n) = 0
-number_of (answer.Refused e) = number e
+abbrev pub number_of : Result Containment Refusal → ℕ
+number_of (Ok a) = 0
+number_of (Err e) = number e
 
 -- the values told with it: how many numbers show it, or the refusal's place
-abbrev pub values_of : Containment → List ℕ
-values_of answer.Within = []
-values_of (answer.Apart n) = n ∷ []
-values_of (answer.Refused e) = place e ∷ []
+abbrev pub values_of : Result Containment Refusal → List ℕ
+values_of (Ok answer.Within) = []
+values_of (Ok (answer.Apart n)) = n ∷ []
+values_of (Err e) = place e ∷ []
 
 -- the room for tables is too short
 abbrev pub room_refusal : List ℕ → Option Refusal
@@ -40,12 +39,12 @@ abbrev pub shown : (first second : List ℕ) → List ℕ
 shown first second = tables_out (naming (question_in first) (question_in second)) (question_in first)
 
 -- where nothing is refused: the answer and the room, by whether the second can be read into the first
-abbrev pub told_by : Bool → (first second room : List ℕ) → Containment × List ℕ
-told_by b first second room = cond b (answer.Within, room) (answer.Apart (length (shown first second)), shown first second ++ drop (length (shown first second)) room)
+abbrev pub told_by : Bool → (first second room : List ℕ) → Result Containment Refusal × List ℕ
+told_by b first second room = cond b (Ok answer.Within, room) (Ok (answer.Apart (length (shown first second))), shown first second ++ drop (length (shown first second)) room)
 
 -- the answer, and the room after it
-abbrev pub within_says : Option Refusal → (first second room : List ℕ) → Containment × List ℕ
-within_says (Some e) first second room = (answer.Refused e, room)
+abbrev pub within_says : Option Refusal → (first second room : List ℕ) → Result Containment Refusal × List ℕ
+within_says (Some e) first second room = (Err e, room)
 within_says None first second room = told_by (can_read (question_in second) (question_in first)) first second room
 
 -- how many numbers show it, by whether the second can be read into the first
@@ -53,7 +52,7 @@ abbrev pub size_of : Bool → (first second : List ℕ) → List ℕ
 size_of b first second = cond b [] (length (shown first second) ∷ [])
 
 -- the number and the values that an answer tells, where a call is turned away or not
-pub record Numbered (r : Containment) (refusal : Option Refusal) (first second : List ℕ) : Type 0 where
+pub record Numbered (r : Result Containment Refusal) (refusal : Option Refusal) (first second : List ℕ) : Type 0 where
   pub number : number_of r ≡ told_number refusal
   pub values : values_of r ≡ told_values refusal (size_of (can_read (question_in second) (question_in first)) first second)
 
@@ -64,7 +63,7 @@ pub record TellsApart (b : Base) (p q : Question) : Type 0 where
   pub not_answered : Answers b q row → ⊥
 
 -- what an answer means: the first lies within the second; or it does not, and the numbers in the room, read as tables, show it
-abbrev pub Meant : Containment → (first second room : List ℕ) → Type 0
-Meant answer.Within first second room = Within (question_in first) (question_in second)
-Meant (answer.Apart n) first second room = (Within (question_in first) (question_in second) → ⊥) × TellsApart (tables_in room) (question_in first) (question_in second)
-Meant (answer.Refused e) first second room = within_refusal first second room ≡ Some e
+abbrev pub Meant : Result Containment Refusal → (first second room : List ℕ) → Type 0
+Meant (Ok answer.Within) first second room = Within (question_in first) (question_in second)
+Meant (Ok (answer.Apart n)) first second room = (Within (question_in first) (question_in second) → ⊥) × TellsApart (tables_in room) (question_in first) (question_in second)
+Meant (Err e) first second room = within_refusal first second room ≡ Some e

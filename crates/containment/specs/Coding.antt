@@ -1,13 +1,8 @@
 -- A part of a reading as a row of numbers, one for each variable: how a program keeps it. Assumes nothing: these are definitions.
-use Rattle.std.specs.Prelude.{ℕ, ◌+◌, ◌-◌, ◌<◌, cond, List, Some, None, Option, nat_lt, slice_index_or}
+use Rattle.std.specs.Prelude.{ℕ, ◌-◌, cond, List, Some, None, Option, nat_lt, slice_index_or}
 use Rattle.question.specs.declared.terms.Term.{Term}
 use Rattle.question.specs.declared.terms.Term.TheVariants.{Number, Variable}
 use Rattle.containment.specs.Search.{Part}
-
--- the number n is n, and the variable x is 2^32 + x
-unfoldable pub code : Term → ℕ
-code (Number n) = n
-code (Variable x) = 4294967296 + x
 
 -- a variable that is not put yet: 2^33
 abbrev pub not_put : ℕ
@@ -16,11 +11,6 @@ not_put = 8589934592
 -- what a number stands for
 unfoldable pub decode : ℕ → Option Term
 decode k = cond (nat_lt k 4294967296) (Some (Number k)) (cond (nat_lt k 8589934592) (Some (Variable (k - 4294967296))) None)
-
--- terms that a number can stand for
-abbrev pub Codes : Term → Type 0
-Codes (Number n) = n < 4294967296
-Codes (Variable x) = x < 4294967296
 
 -- the part of a reading that a row of numbers is
 abbrev pub part_of : List ℕ → Part

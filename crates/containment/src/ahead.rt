@@ -1,69 +1,64 @@
 // Whether there is a reading at all, without naming it: the search looks ahead, and turns back where a line has no place left.
-ghost use Rattle.std.specs.Prelude.{◌≡◌, ◌*◌, ◌≤◌, true, length, drop, is_some, Some};
-ghost use Rattle.question.specs.Layout.{line_in, line_fits, lines_in, lines_fit};
+ghost use Rattle.std.specs.Prelude.{◌≡◌, is_some, Some};
+ghost use Rattle.question.specs.Lent.{line_of, lines_of};
 ghost use Rattle.containment.specs.Search.{try_lines, read_lines, all_placed};
 ghost use Rattle.containment.specs.Coding.{part_of};
 
-use super::matching::match_line;
 use super::reading::Reading;
-use question::nth_line;
+use question::{Line, Lines};
 
-// Whether the line can be put as one of m lines, past the reading.
-fn has_place(reading: Reading, line: &[u64], to: &[u64], m: usize) -> bool
-    requires lent { (length line.now ≡ 10) × (10 * m ≤ length to.now) }
-    requires fit { (line_fits 16 line.now ≡ true) × (lines_fit 256 m to.now ≡ true) }
-    ensures { result ≡ is_some (try_lines Some (lines_in m to.now) (line_in line.now) (part_of reading.codes)) }
+// Whether the line can be put as one of the others, past the reading.
+fn has_place<const LIMIT: usize>(
+    reading: Reading,
+    line: &Line<'_, 16>,
+    to: &Lines<'_, LIMIT>,
+) -> bool
+    ensures { result ≡ is_some (try_lines Some (lines_of to.now) (line_of line.now) (part_of reading.codes)) }
 {
-    for j in 0..m {
-        if let Some(_) = match_line(reading, line, nth_line(to, j)) {
+    for other in *to {
+        if reading.put_line(line, &other).is_some() {
             return true;
         }
     }
     false
 }
 
-// Whether each line from the i-th of n on, alone, can be put as one of m lines, past the reading. If one can't, no reading puts them all.
-fn all_placed(i: usize, reading: Reading, from: &[u64], n: usize, to: &[u64], m: usize) -> bool
-    requires lent { (10 * n ≤ length from.now) × (10 * m ≤ length to.now) }
-    requires fit { (lines_fit 16 n from.now ≡ true) × (lines_fit 256 m to.now ≡ true) }
-    ensures { result ≡ all_placed (drop i (lines_in n from.now)) (lines_in m to.now) (part_of reading.codes) }
+// Whether each of the lines, alone, can be put as one of the others, past the reading. If one can't, no reading puts them all.
+fn all_placed<const LIMIT: usize>(
+    reading: Reading,
+    from: &Lines<'_, 16>,
+    to: &Lines<'_, LIMIT>,
+) -> bool
+    ensures { result ≡ all_placed (lines_of from.now) (lines_of to.now) (part_of reading.codes) }
 {
-    for k in i..n {
-        let placed = has_place(reading, nth_line(from, k), to, m);
-        if !placed {
+    for line in *from {
+        if !has_place(reading, &line, to) {
             return false;
         }
     }
     true
 }
 
-// Whether there is a reading, past the one given, that puts the lines from the i-th of n on as some of m lines. It looks ahead: where a line has no place left, it turns back.
-pub(crate) fn can_read_lines(
-    i: usize,
+// Whether there is a reading, past the one given, that puts the lines as some of the others. It looks ahead: where a line has no place left, it turns back.
+pub(crate) fn can_read_lines<const LIMIT: usize>(
     reading: Reading,
-    from: &[u64],
-    n: usize,
-    to: &[u64],
-    m: usize,
+    from: &Lines<'_, 16>,
+    to: &Lines<'_, LIMIT>,
 ) -> bool
-    requires lent { (10 * n ≤ length from.now) × (10 * m ≤ length to.now) }
-    requires fit { (lines_fit 16 n from.now ≡ true) × (lines_fit 256 m to.now ≡ true) }
-    ensures { result ≡ is_some (read_lines (drop i (lines_in n from.now)) (lines_in m to.now) (part_of reading.codes)) }
+    ensures { result ≡ is_some (read_lines (lines_of from.now) (lines_of to.now) (part_of reading.codes)) }
 {
-    if i >= n {
+    let mut left = *from;
+    let Some(line) = left.next() else {
         return true;
-    }
-    let placed = all_placed(i, reading, from, n, to, m);
-    if !placed {
+    };
+    if !all_placed(reading, from, to) {
         return false;
     }
-    let line = nth_line(from, i);
-    for j in 0..m {
-        let Some(more) = match_line(reading, line, nth_line(to, j)) else {
+    for other in *to {
+        let Some(more) = reading.put_line(&line, &other) else {
             continue;
         };
-        let read = can_read_lines(i + 1, more, from, n, to, m);
-        if read {
+        if can_read_lines(more, &left, to) {
             return true;
         }
     }

@@ -1,5 +1,4 @@
 // What is said of two questions.
-use question::Refusal;
 
 // Whether the first of two questions lies within the second (the field says: is contained in it).
 #[derive(Clone, Copy, PartialEq, Eq, Debug)]
@@ -8,5 +7,4 @@ pub enum Containment {
     Within,
     // It does not, and the tables that show so are so many numbers at the front of the room.
     Apart(u64),
-    Refused(Refusal),
 }

@@ -1,56 +1,38 @@
 // Laws of reading and containment: each function's contract is one of them.
 ghost use Rattle.containment.specs.Laws.{SearchExact, WithinReading, AnyNaming, NamingNew, NamingLeast, NamingOnly, NamingSmall, WithinExact, WithinDecided};
 
-pub fn search_is_exact() -> u8
+pub fn search_is_exact()
     ensures { SearchExact }
-{
-    0
-}
+{}
 
-pub fn within_is_reading() -> u8
+pub fn within_is_reading()
     ensures { WithinReading }
-{
-    0
-}
+{}
 
-pub fn any_naming_shows() -> u8
+pub fn any_naming_shows()
     ensures { AnyNaming }
-{
-    0
-}
+{}
 
-pub fn naming_is_new() -> u8
+pub fn naming_is_new()
     ensures { NamingNew }
-{
-    0
-}
+{}
 
-pub fn naming_is_least() -> u8
+pub fn naming_is_least()
     ensures { NamingLeast }
-{
-    0
-}
+{}
 
-pub fn naming_is_the_only_one() -> u8
+pub fn naming_is_the_only_one()
     ensures { NamingOnly }
-{
-    0
-}
+{}
 
-pub fn naming_is_small() -> u8
+pub fn naming_is_small()
     ensures { NamingSmall }
-{
-    0
-}
+{}
 
-pub fn within_is_exact() -> u8
+pub fn within_is_exact()
     ensures { WithinExact }
-{
-    0
-}
+{}
 
-pub fn within_is_decided() -> u8
+pub fn within_is_decided()
     ensures { WithinDecided }
-{
-    0
-}
+{}

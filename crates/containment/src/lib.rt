@@ -6,7 +6,6 @@ mod answer;
 mod compare;
 mod fresh;
 mod laws;
-mod matching;
 mod reading;
 mod search;
 mod shown;
@@ -18,7 +17,6 @@ pub use laws::{
     any_naming_shows, naming_is_least, naming_is_new, naming_is_small, naming_is_the_only_one,
     search_is_exact, within_is_decided, within_is_exact, within_is_reading,
 };
-pub use matching::match_line;
 pub use reading::Reading;
 pub use search::{first_reading, read_lines, reads_into};
 pub use shown_laws::{

@@ -1,38 +1,43 @@
 // The first reading of a question into another: the rows first, then line after line, each tried with every line of the other in turn.
-ghost use Rattle.std.specs.Prelude.{◌≡◌, ◌*◌, ◌≤◌, true, length, drop, is_some, None};
-ghost use Rattle.question.specs.Layout.{lines_in, lines_fit, question_in};
-ghost use Rattle.question.specs.Check.{question_refusal};
-ghost use Rattle.containment.specs.Search.{read_lines, first_reading, can_read};
+ghost use Rattle.std.specs.Prelude.{◌≡◌, is_some};
+ghost use Rattle.question.specs.Lent.{lines_of, question_of};
+ghost use Rattle.containment.specs.Search.{nothing, match_terms, read_lines, first_reading, can_read};
 ghost use Rattle.containment.specs.Coding.{part_of};
 ghost use Rattle.containment.specs.Told.{told};
 
 use super::ahead::can_read_lines;
-use super::matching::{match_line, match_rows};
 use super::reading::Reading;
-use question::{line_count, lines_of, nth_line};
+use question::{Lines, Question};
 
-// The first reading, past the one given, that puts the lines from the i-th of n on as some of m lines.
-pub fn read_lines(
-    i: usize,
-    reading: Reading,
-    from: &[u64],
-    n: usize,
-    to: &[u64],
-    m: usize,
-) -> Option<Reading>
-    requires lent { (10 * n ≤ length from.now) × (10 * m ≤ length to.now) }
-    requires fit { (lines_fit 16 n from.now ≡ true) × (lines_fit 256 m to.now ≡ true) }
-    ensures { told result ≡ read_lines (drop i (lines_in n from.now)) (lines_in m to.now) (part_of reading.codes) }
+// The reading that puts the row of a question as the row of another, and nothing else.
+fn row_reading<'a>(question: &Question<'a>, other: &Question<'a>) -> Option<Reading>
+    ensures { told result ≡ match_terms nothing (question_of question.now).row (question_of other.now).row }
 {
-    if i >= n {
-        return Some(reading);
+    let row = question.row();
+    let as_row = other.row();
+    if row.count_left() != as_row.count_left() {
+        return None;
     }
-    let line = nth_line(from, i);
-    for j in 0..m {
-        let Some(more) = match_line(reading, line, nth_line(to, j)) else {
+    Reading::nothing().put_terms(&row, &as_row)
+}
+
+// The first reading, past the one given, that puts the first lines as some of the others.
+pub fn read_lines<const LIMIT: usize>(
+    reading: Reading,
+    from: &Lines<'_, 16>,
+    to: &Lines<'_, LIMIT>,
+) -> Option<Reading>
+    ensures { told result ≡ read_lines (lines_of from.now) (lines_of to.now) (part_of reading.codes) }
+{
+    let mut left = *from;
+    let Some(line) = left.next() else {
+        return Some(reading);
+    };
+    for other in *to {
+        let Some(more) = reading.put_line(&line, &other) else {
             continue;
         };
-        if let Some(whole) = read_lines(i + 1, more, from, n, to, m) {
+        if let Some(whole) = read_lines(more, &left, to) {
             return Some(whole);
         }
     }
@@ -40,28 +45,21 @@ pub fn read_lines(
 }
 
 // The first reading of a question into another.
-pub fn first_reading(question: &[u64], other: &[u64]) -> Option<Reading>
-    requires { (question_refusal question.now ≡ None) × (question_refusal other.now ≡ None) }
-    ensures first { told result ≡ first_reading (question_in question.now) (question_in other.now) }
-    ensures found { is_some result ≡ can_read (question_in question.now) (question_in other.now) }
+pub fn first_reading(question: &Question<'_>, other: &Question<'_>) -> Option<Reading>
+    ensures first { told result ≡ first_reading (question_of question.now) (question_of other.now) }
+    ensures found { is_some result ≡ can_read (question_of question.now) (question_of other.now) }
 {
-    let Some(reading) = match_rows(question, other) else {
-        return None;
-    };
-    let n = line_count(question);
-    let m = line_count(other);
-    read_lines(0, reading, lines_of(question), n, lines_of(other), m)
+    let reading = row_reading(question, other)?;
+    read_lines(reading, &question.lines(), &other.lines())
 }
 
-// Whether a question can be read into the question with the same row and m lines.
-pub fn reads_into(question: &[u64], lines: &[u64], m: usize) -> bool
-    requires checked { question_refusal question.now ≡ None }
-    requires lent { (10 * m ≤ length lines.now) × (lines_fit 256 m lines.now ≡ true) }
-    ensures { result ≡ can_read (question_in question.now) (record { row = (question_in question.now).row; lines = lines_in m lines.now }) }
+// Whether a question can be read into the question with the same row and these lines.
+pub fn reads_into<const LIMIT: usize>(question: &Question<'_>, lines: &Lines<'_, LIMIT>) -> bool
+    ensures { result ≡ can_read (question_of question.now) (record { row = (question_of question.now).row; lines = lines_of lines.now }) }
 {
-    let Some(reading) = match_rows(question, question) else {
+    let Some(reading) = row_reading(question, question) else {
         return false;
     };
-    let n = line_count(question);
-    can_read_lines(0, reading, lines_of(question), n, lines, m)
+    let from = question.lines();
+    can_read_lines(reading, &from, lines)
 }

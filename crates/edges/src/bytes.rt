@@ -35,14 +35,9 @@ pub fn show_all(rt: &HostRuntime) -> io::Result<()> {
         &[0, 0, 1, 7, 0, 0, 0, 0, 8, 9],
     )?;
     let many = hostile(rt.alloc())?;
-    show_request(rt, "255 lines of 255 terms", many.as_slice())?;
-    let size = many.len();
-    if size > 0 {
-        show_request(
-            rt,
-            "the same without its last byte",
-            &many.as_slice()[0..size - 1],
-        )?;
+    show_request(rt, "255 lines of 255 terms", &many)?;
+    if let Some((_, front)) = many.split_last() {
+        show_request(rt, "the same without its last byte", front)?;
     }
     Ok(())
 }

@@ -2,54 +2,48 @@
 use question::check_question;
 use std::io;
 
+// Numbers with others at some places.
+fn with<const N: usize>(mut numbers: [u64; N], changes: &[(usize, u64)]) -> [u64; N] {
+    for (place, number) in changes {
+        if let Some(old) = numbers.get_mut(*place) {
+            *old = *number;
+        }
+    }
+    numbers
+}
+
 // x0 of 7: x0
-pub fn plain() -> [u64; 50] {
-    let mut question = [0; 50];
-    question[0] = 1;
-    question[1] = 1;
-    question[9] = 1;
-    question[10] = 7;
-    question[11] = 1;
-    question[12] = 1;
-    question
+fn plain() -> [u64; 50] {
+    with(
+        [0; 50],
+        &[(0, 1), (1, 1), (9, 1), (10, 7), (11, 1), (12, 1)],
+    )
 }
 
 // A line without terms, an empty row, and numbers behind them.
 fn longer() -> [u64; 60] {
-    let mut numbers = [0; 60];
-    numbers[9] = 1;
-    numbers[55] = 5;
-    numbers
+    with([0; 60], &[(9, 1), (55, 5)])
 }
 
 // The plain line, n times.
 fn repeated(n: u64) -> [u64; 50] {
-    let mut question = plain();
+    let mut question = [0; 50];
+    question[..2].copy_from_slice(&[1, 1]);
     question[9] = n;
-    for i in 1..4 {
-        question[10 + 10 * i] = 7;
-        question[11 + 10 * i] = 1;
-        question[12 + 10 * i] = 1;
+    for line in question[10..].as_chunks_mut().0 {
+        *line = [7, 1, 1, 0, 0, 0, 0, 0, 0, 0];
     }
     question
 }
 
-// The plain question with another number at a place.
-pub fn with(place: usize, number: u64) -> [u64; 50] {
-    let mut question = plain();
-    if place < 50 {
-        question[place] = number;
-    }
-    question
+// The plain question with other numbers at some places.
+pub fn plain_with(changes: &[(usize, u64)]) -> [u64; 50] {
+    with(plain(), changes)
 }
 
-// The plain line three times, with a number changed at a place.
-fn thrice_with(place: usize, number: u64) -> [u64; 50] {
-    let mut question = repeated(3);
-    if place < 50 {
-        question[place] = number;
-    }
-    question
+// The plain line three times, with other numbers at some places.
+fn thrice_with(changes: &[(usize, u64)]) -> [u64; 50] {
+    with(repeated(3), changes)
 }
 
 pub fn show(rt: &HostRuntime, name: &str, question: &[u64]) -> io::Result<()> {
@@ -74,38 +68,49 @@ fn show_counts(rt: &HostRuntime) -> io::Result<()> {
     show(rt, "four lines", &repeated(4))?;
     show(rt, "five lines", &repeated(5))?;
     show(rt, "2^64 - 1 lines", &repeated(u64::MAX))?;
-    let mut five = repeated(5);
-    five[31] = 9;
-    show(rt, "five lines, the third too wide", &five)?;
+    show(
+        rt,
+        "five lines, the third too wide",
+        &with(repeated(5), &[(31, 9)]),
+    )?;
     show(
         rt,
         "a table with another width at the third line",
-        &thrice_with(31, 0),
+        &thrice_with(&[(31, 0)]),
     )?;
     show(
         rt,
         "another table with another width there",
-        &thrice_with(30, 8),
+        &thrice_with(&[(30, 8)]),
     )
 }
 
 fn show_cells(rt: &HostRuntime) -> io::Result<()> {
-    show(rt, "a line without terms, and x0 in the row", &with(11, 0))?;
-    show(rt, "a line of four terms", &with(11, 4))?;
-    show(rt, "a line of five terms", &with(11, 5))?;
-    show(rt, "table 2^32 - 1", &with(10, 4294967295))?;
-    show(rt, "table 2^32", &with(10, 4294967296))?;
-    show(rt, "x15 at the third line", &thrice_with(33, 15))?;
-    show(rt, "x16 at the third line", &thrice_with(33, 16))?;
-    let mut number = thrice_with(32, 0);
-    number[33] = 4294967295;
-    show(rt, "2^32 - 1 at the third line", &number)?;
-    number[33] = 4294967296;
-    show(rt, "2^32 at the third line", &number)?;
+    show(
+        rt,
+        "a line without terms, and x0 in the row",
+        &plain_with(&[(11, 0)]),
+    )?;
+    show(rt, "a line of four terms", &plain_with(&[(11, 4)]))?;
+    show(rt, "a line of five terms", &plain_with(&[(11, 5)]))?;
+    show(rt, "table 2^32 - 1", &plain_with(&[(10, 4294967295)]))?;
+    show(rt, "table 2^32", &plain_with(&[(10, 4294967296)]))?;
+    show(rt, "x15 at the third line", &thrice_with(&[(33, 15)]))?;
+    show(rt, "x16 at the third line", &thrice_with(&[(33, 16)]))?;
+    show(
+        rt,
+        "2^32 - 1 at the third line",
+        &thrice_with(&[(32, 0), (33, 4294967295)]),
+    )?;
+    show(
+        rt,
+        "2^32 at the third line",
+        &thrice_with(&[(32, 0), (33, 4294967296)]),
+    )?;
     show(
         rt,
         "a term of kind 2 at the second line",
-        &thrice_with(22, 2),
+        &thrice_with(&[(22, 2)]),
     )?;
-    show(rt, "room that is not used", &with(14, 77))
+    show(rt, "room that is not used", &plain_with(&[(14, 77)]))
 }

@@ -1,31 +1,22 @@
 // Looks for a question over reports: reads a request as bytes from standard input, and prints one line.
 #![tactic(auto)]
 
-mod shown;
 #[cfg(test)]
 mod tests;
 
-use rewriting::{Reply, find};
-use shown::show_found;
+use rewriting::found_line;
 use std::io;
 use std::io::Read;
-use wire::{Request, read_request};
-
-// Prints what is found for a request.
-fn answer(rt: &HostRuntime, request: &Request) -> io::Result<()> {
-    let mut found = [0; 50];
-    match find(&request.question, &request.reports, &mut found) {
-        Reply::By(uses) => show_found(rt, uses, &found),
-        Reply::Impossible => println!(rt; "none"),
-        Reply::Refused(refusal) => println!(rt; "{refusal}"),
-    }
-}
+use wire::read_request;
 
 fn main(rt: HostRuntime) -> io::Result<()> {
     let mut bytes = Vec::new(rt.alloc());
     rt.stdin().read_to_end(&mut bytes)?;
-    match read_request(bytes.as_slice()) {
-        Ok(request) => answer(&rt, &request),
+    match read_request(&bytes) {
+        Ok(request) => {
+            let line = found_line(rt.alloc(), &request.question, &request.reports)?;
+            println!(rt; "{line}")
+        }
         Err(refusal) => println!(rt; "{refusal}"),
     }
 }

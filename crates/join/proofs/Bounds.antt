@@ -2,7 +2,7 @@
 use Rattle.std.proofs.Common.{◌≡◌, ℕ, zero, suc, ◌+◌, ◌<◌, ◌≤◌, List, [], length, get_or, sym, refl, ap, ◌∙◌, inl, inr, arith}
 use Rattle.std.proofs.lemmas.Bool.{cases_lt}
 use Rattle.join.specs.Order.{Value, Before, Sorted, cells, row_at}
-use Rattle.join.proofs.Ordering.{not-less, same_not, first_differ}
+use Rattle.join.proofs.Ordering.{not-less}
 use Rattle.join.specs.Slots.{Agree, Blank, AllStand, Stands, SlotsBelow, slot, under}
 
 pub under_at : (line env : List ℕ) (c : ℕ) → c < 5 → get_or (under line env) c 0 ≡ get_or env (slot line c) 0
@@ -55,33 +55,6 @@ module _ (rows : List (List ℕ)) (line env key : List ℕ) (is_key : (c : ℕ) 
           let ge : get_or key c 0 ≤ row_at rows at c =
           not-less 5 (cells key) (row_at rows at) c inside (λ i g. sym (same i g).1) from in
           omega (arith, ge, next_le, is_key c inside, agree (slot line c) h)
-
-module _ (rows : List (List ℕ)) (line env key : List ℕ) (is_key : (c : ℕ) → c < 5 → get_or key c 0 ≡ get_or env (slot line c) 0) (at : ℕ) where
-  -- neither comes before the other
-  pub stands : at < length rows → (Before 5 (row_at rows at) (cells key) → ⊥) → (Before 5 (cells key) (row_at rows at) → ⊥) → Stands rows line (cells env)
-  stands h low high = elim (first_differ 5 (row_at rows at) (cells key)) [
-    | inl s ↦ record { place = at; inside = h; is = λ c g. s c g ∙ is_key c g }
-    | inr d ↦ elim (cases_lt (row_at rows at d.place) (get_or key d.place 0)) [
-      | inl l ↦ absurd (low (record { place = d.place; inside = d.inside; same = d.same; less = l }))
-      | inr l ↦ elim (cases_lt (get_or key d.place 0) (row_at rows at d.place)) [
-        | inl g ↦ absurd (high (record { place = d.place; inside = d.inside; same = λ i h. sym (d.same i h); less = g }))
-        | inr g ↦ absurd (d.not (omega arith))
-      ]
-    ]
-  ]
-
-  pub key-not-past : ((j : ℕ) → j < at → Before 5 (row_at rows j) (cells key)) → (f : Stands rows line (cells env)) → at ≤ f.place
-  key-not-past below f = elim (cases_lt f.place at)
-      [ inl h ↦ absurd (same_not 5 (row_at rows f.place) (cells key) (λ i g. f.is i g ∙ sym (is_key i g)) (below f.place h)) | inr h ↦ h ]
-
-  pub stands-not : Sorted rows → ((j : ℕ) → j < at → Before 5 (row_at rows j) (cells key)) → Before 5 (cells key) (row_at rows at) → Stands rows line (cells env) → ⊥
-  stands-not sorted below b f = sorted at f.place (key-not-past below f) f.inside
-      (record {
-        place = b.place;
-        inside = b.inside;
-        same = λ i h. f.is i (omega (arith, b.inside)) ∙ sym (is_key i (omega (arith, b.inside))) ∙ b.same i h;
-        less = omega (arith, b.less, f.is b.place b.inside, is_key b.place b.inside);
-      })
 
 pub line_of : (rows lines : List (List ℕ)) (v : Value) → AllStand rows lines v → (i : ℕ) → i < length lines → Stands rows (get_or lines i []) v
 unfolding AllStand

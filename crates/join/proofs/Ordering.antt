@@ -53,16 +53,6 @@ le_before n a b c nb h = elim (first_differ (suc h.place) a b) [
 pub same_not : (n : ℕ) (a b : Value) → ((i : ℕ) → i < n → a i ≡ b i) → Before n a b → ⊥
 same_not n a b s h = omega (arith, s h.place h.inside, h.less)
 
--- where they first differ, the smaller comes before
-pub differ_not : (n : ℕ) (a b : Value) (c : ℕ) → ((i : ℕ) → i < c → a i ≡ b i) → (b c < a c) → Before n a b → ⊥
-differ_not n a b c s g h = elim (cases_lt h.place c) [
-  | inl k ↦ omega (arith, s h.place k, h.less)
-  | inr k ↦ elim (cases_lt c h.place) [
-    | inl m ↦ omega (arith, h.same c m)
-    | inr m ↦ (let e : h.place ≡ c = omega arith in let hl : a c < b c = rw e at h.less in omega arith)
-  ]
-]
-
 -- what comes before at a row comes before at each earlier one
 pub all-before : (rows : List (List ℕ)) (m : ℕ) (key : Value) → Sorted rows → m < length rows → Before 5 (row_at rows m) key → (j : ℕ) → j < m + 1 → Before 5 (row_at rows j) key
 all-before rows m key up h b j k = le_before 5 (row_at rows j) (row_at rows m) key (up j m (omega arith) h) b

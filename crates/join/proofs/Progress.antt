@@ -1,25 +1,41 @@
 -- The steps of putting rows out.
-use Rattle.std.proofs.Common.{◌≡◌, ℕ, ◌+◌, ◌*◌, ◌^◌, ◌<◌, ◌≤◌, Bool, true, false, ◌⊎◌, List, [], length, get_or, Some, None, Ok, Err, sym, refl, ap, ◌∙◌, inl, inr, mul-le-mul_right, add-mul, one-mul, zero-mul, arith}
+use Rattle.std.proofs.Common.{◌≡◌, ℕ, ◌+◌, ◌*◌, ◌^◌, ◌<◌, ◌≤◌, Bool, is_some, ◌⊎◌, List, Option, Bor, IfSome, MatchOption, [], length, take, get_or, Some, None, Ok, Err, sym, refl, ap, ◌∙◌, inl, inr, mul-le-mul_right, add-mul, one-mul, zero-mul, arith}
+use mir.Val.{bool_byte}
+use Rattle.std.specs.Option.{option_copied}
 use Rattle.std.proofs.lemmas.Bool.{cases_lt}
+use Rattle.std.specs.List.{flat_map}
 use Rattle.std.proofs.lemmas.List.{get_or_past}
+use Rattle.std.proofs.lemmas.List.Concat.{get_or-flat_map}
 use Rattle.join.specs.Order.{Value, Before, cells, row_at}
 use Rattle.join.proofs.Ordering.{first_differ, le_before, same_not}
 use Rattle.join.specs.Slots.{Agree, AllStand, slot}
 use Rattle.join.specs.FirstValues.{FirstValues, Small}
+use Rattle.join.proofs.Steps.{later}
 use Rattle.join.specs.RowsOut.{row_of, Asked, Answered, Among, AfterAll, Standing, PutOut, AllShown}
 
 abbrev pub row_under : List ℕ → Value → Value
 row_under row v c = v (slot row c)
 
-pub record Progress (q : Asked) (shown : ℕ) (old out : List ℕ) (count at : ℕ) (last : List ℕ) : Type 0 where
+-- the values come after those of the last row, if there is one
+abbrev pub later_than : ℕ → Option (List ℕ) → Value → Type 0
+later_than shown last v = IfSome last (λ e. Before shown (cells e) v)
+
+pub later-from : (shown : ℕ) (last : Option (List ℕ)) (after : Option (Bor (List ℕ))) → option_copied after ≡ last → (v : Value) → later_than shown last v → later shown after v
+later-from shown last None e v l = tt
+later-from shown last (Some r) e v l = rw (sym e) at l
+
+pub later-to : (shown : ℕ) (last : Option (List ℕ)) (after : Option (Bor (List ℕ))) → option_copied after ≡ last → (v : Value) → later shown after v → later_than shown last v
+later-to shown last None e v l = rw (sym e) tt
+later-to shown last (Some r) e v l = rw (sym e) l
+
+pub record Progress (q : Asked) (shown : ℕ) (old out : List ℕ) (count at : ℕ) (last : Option (List ℕ)) : Type 0 where
   pub at_is : at ≡ count * length q.row
   pub room : at ≤ length out
   pub few : count ≤ at
-  pub agree : Agree q.k q.env (cells last)
+  pub known : MatchOption last (count ≡ 0) (λ e. Agree q.k q.env (cells e) × ((i : ℕ) → i < count → Before (length q.row) (row_under q.row (cells e)) (row_of out (length q.row) i) → ⊥))
   pub answered : (i : ℕ) → i < count → Answered q (row_of out (length q.row) i)
   pub rising : (i j : ℕ) → i < j → j < count → Before (length q.row) (row_of out (length q.row) i) (row_of out (length q.row) j)
-  pub low : (i : ℕ) → i < count → Before (length q.row) (row_under q.row (cells last)) (row_of out (length q.row) i) → ⊥
-  pub found : (v : Value) → Agree q.k q.env v → AllStand q.rows q.lines v → Among q out count (row_under q.row v) ⊎ (0 < count → Before shown (cells last) v)
+  pub found : (v : Value) → Agree q.k q.env v → AllStand q.rows q.lines v → Among q out count (row_under q.row v) ⊎ later_than shown last v
   pub rest : (p : ℕ) → at ≤ p → get_or out p 0 ≡ get_or old p 0
 
 pub before_same : (n : ℕ) (a x b y : Value) → ((i : ℕ) → i < n → a i ≡ x i) → ((i : ℕ) → i < n → b i ≡ y i) → Before n a b → Before n x y
@@ -59,29 +75,30 @@ row-after row k shown a b shows same h = elim (cases_lt h.place k) [
 ]
 
 module _ (q : Asked) (shown : ℕ) (old : List ℕ) (wide : 0 < length q.row) where
-  pub begin : Progress q shown old old 0 0 q.env
+  pub begin : Progress q shown old old 0 0 None
   begin = record {
     at_is = sym (zero-mul (length q.row));
     room = omega arith;
     few = omega arith;
-    agree = λ j h. refl;
+    known = refl;
     answered = λ i h. absurd (omega arith);
     rising = λ i j h g. absurd (omega arith);
-    low = λ i h. absurd (omega arith);
-    found = λ v a f. inr (λ h. absurd (omega arith));
+    found = λ v a f. inr tt;
     rest = λ p h. refl;
   }
 
-  module _ (shows : AllShown q.row q.k shown) (slots : (c : ℕ) → c < length q.row → slot q.row c < shown)
-      (out : List ℕ) (count at : ℕ) (last : List ℕ) (p : Progress q shown old out count at last) where
-    agrees : (v : Value) → Agree q.k q.env v → (j : ℕ) → j < q.k → cells last j ≡ v j
-    agrees v a j h = p.agree j h ∙ sym (a j h)
+  -- the last row, and so each, comes before a row of later values
+  behind_last : AllShown q.row q.k shown → (out : List ℕ) (count : ℕ) (last : Option (List ℕ)) → MatchOption last (count ≡ 0) (λ e. Agree q.k q.env (cells e) × ((i : ℕ) → i < count → Before (length q.row) (row_under q.row (cells e)) (row_of out (length q.row) i) → ⊥))
+      → (v : Value) → Agree q.k q.env v → later_than shown last v → AfterAll q out count (row_under q.row v)
+  behind_last shows out count None n v a b i h = absurd (omega arith)
+  behind_last shows out count (Some e) n v a b i h =
+      le_before (length q.row) (row_of out (length q.row) i) (row_under q.row (cells e)) (row_under q.row v) (n.1 i h)
+      (row-after q.row q.k shown (cells e) v shows (λ j g. n.0 j g ∙ sym (a j g)) b)
 
-    -- the last row, and so each, comes before a row of later values
-    after-all : (v : Value) → Agree q.k q.env v → Before shown (cells last) v → AfterAll q out count (row_under q.row v)
-    after-all v a b i h =
-        le_before (length q.row) (row_of out (length q.row) i) (row_under q.row (cells last)) (row_under q.row v) (p.low i h)
-        (row-after q.row q.k shown (cells last) v shows (agrees v a) b)
+  module _ (shows : AllShown q.row q.k shown) (slots : (c : ℕ) → c < length q.row → slot q.row c < shown)
+      (out : List ℕ) (count at : ℕ) (last : Option (List ℕ)) (p : Progress q shown old out count at last) where
+    after-all : (v : Value) → Agree q.k q.env v → later_than shown last v → AfterAll q out count (row_under q.row v)
+    after-all = behind_last shows out count last p.known
 
     pub standing : Standing q old out count
     standing = record {
@@ -91,27 +108,27 @@ module _ (q : Asked) (shown : ℕ) (old : List ℕ) (wide : 0 < length q.row) wh
       first = λ r w. elim (p.found w.value w.agree w.stand) [
         | inl m ↦ inl (record { place = m.place; inside = m.inside; is = λ c h. m.is c h ∙ sym (w.is c h) })
         | inr b ↦ inr (λ i h. before_same (length q.row) (row_of out (length q.row) i) (row_of out (length q.row) i) (row_under q.row w.value) r
-            (λ c g. refl) (λ c g. sym (w.is c g)) (after-all w.value w.agree (b (omega arith)) i h))
+            (λ c g. refl) (λ c g. sym (w.is c g)) (after-all w.value w.agree b i h))
       ];
       rest = λ x h. p.rest x (omega (arith, p.at_is));
     }
 
-    module _ (again : Bool) (yes : again ≡ true → 0 < count) (more : 0 < count → again ≡ true) where
+    module _ (Late : Value → Type 0) (late : (v : Value) → later_than shown last v → Late v) (lately : (v : Value) → Late v → later_than shown last v) where
       -- nothing is left
-      pub all-out : FirstValues q.rows q.lines shown q.k q.env last again None → PutOut q old out (Ok count)
+      pub all-out : FirstValues q.rows q.lines shown q.k q.env Late None → PutOut q old out (Ok count)
       all-out none_left = (
         standing,
         λ r w. elim (p.found w.value w.agree w.stand) [
           | inl m ↦ record { place = m.place; inside = m.inside; is = λ c h. m.is c h ∙ sym (w.is c h) }
-          | inr b ↦ absurd (none_left w.value (record { agree = w.agree; stand = w.stand; after = λ e. b (yes e) }))
+          | inr b ↦ absurd (none_left w.value (record { agree = w.agree; stand = w.stand; late = late w.value b }))
         ],
       )
 
-      module _ (e : List ℕ) (least : FirstValues q.rows q.lines shown q.k q.env last again (Some e)) where
+      module _ (e : List ℕ) (least : FirstValues q.rows q.lines shown q.k q.env Late (Some e)) where
         next-after : AfterAll q out count (row_under q.row (cells e))
-        next-after i h = after-all (cells e) least.0.agree (least.0.after (more (omega arith))) i h
+        next-after i h = after-all (cells e) least.0.agree (lately (cells e) least.0.late) i h
 
-        pub no_room : length out < at + length q.row → PutOut q old out (Err count)
+        pub no_room : length out < at + length q.row → PutOut q old out (Err (record { 0 = count }))
         no_room h = (
           standing,
           record {
@@ -139,12 +156,18 @@ module _ (q : Asked) (shown : ℕ) (old : List ℕ) (wide : 0 < length q.row) wh
           before-new i h = before_same (length q.row) (row_of out (length q.row) i) (row_of now-out (length q.row) i) (row_under q.row (cells e)) (row_of now-out (length q.row) count)
               (stays i h) (λ c g. sym (newest c g)) (next-after i h)
 
-          pub put-more : Progress q shown old now-out (count + 1) (at + length q.row) e
+          pub put-more : Progress q shown old now-out (count + 1) (at + length q.row) (Some e)
           put-more = record {
             at_is = omega (arith, p.at_is, add-mul count 1 (length q.row), one-mul (length q.row));
             room = fits;
             few = omega (arith, p.few, wide);
-            agree = least.0.agree;
+            known = (
+              least.0.agree,
+              one_more (λ i. Before (length q.row) (row_under q.row (cells e)) (row_of now-out (length q.row) i) → ⊥)
+                  (λ i h b. not_both (length q.row) (row_under q.row (cells e)) (row_of now-out (length q.row) i) b
+                  (before_same (length q.row) (row_of now-out (length q.row) i) (row_of now-out (length q.row) i) (row_of now-out (length q.row) count) (row_under q.row (cells e)) (λ c g. refl) newest (before-new i h)))
+                  (same_not (length q.row) (row_under q.row (cells e)) (row_of now-out (length q.row) count) (λ c g. sym (newest c g))),
+            );
             answered = one_more (λ i. Answered q (row_of now-out (length q.row) i))
                 (λ i h. let a = p.answered i h in record { value = a.value; agree = a.agree; stand = a.stand; is = λ c g. sym (stays i h c g) ∙ a.is c g })
                 (record { value = cells e; agree = least.0.agree; stand = least.0.stand; is = newest });
@@ -153,17 +176,13 @@ module _ (q : Asked) (shown : ℕ) (old : List ℕ) (wide : 0 < length q.row) wh
                   (stays i (omega arith)) (stays j l) (p.rising i j h l)
               | inr l ↦ (let x : count ≡ j = omega arith in rw x at (before-new i (omega arith)))
             ];
-            low = one_more (λ i. Before (length q.row) (row_under q.row (cells e)) (row_of now-out (length q.row) i) → ⊥)
-                (λ i h b. not_both (length q.row) (row_under q.row (cells e)) (row_of now-out (length q.row) i) b
-                (before_same (length q.row) (row_of now-out (length q.row) i) (row_of now-out (length q.row) i) (row_of now-out (length q.row) count) (row_under q.row (cells e)) (λ c g. refl) newest (before-new i h)))
-                (same_not (length q.row) (row_under q.row (cells e)) (row_of now-out (length q.row) count) (λ c g. sym (newest c g)));
             found = λ v a f. elim (p.found v a f) [
               | inl m ↦ inl (record { place = m.place; inside = omega (arith, m.inside); is = λ c g. sym (stays m.place m.inside c g) ∙ m.is c g })
               | inr b ↦ elim (first_differ shown (cells e) v) [
                 | inl s ↦ inl (record { place = count; inside = omega arith; is = λ c g. newest c g ∙ s (slot q.row c) (slots c g) })
                 | inr d ↦ elim (cases_lt (cells e d.place) (v d.place)) [
-                  | inl l ↦ inr (λ h. record { place = d.place; inside = d.inside; same = d.same; less = l })
-                  | inr l ↦ absurd (least.1 v (record { agree = a; stand = f; after = λ g. b (yes g) })
+                  | inl l ↦ inr (record { place = d.place; inside = d.inside; same = d.same; less = l })
+                  | inr l ↦ absurd (least.1 v (record { agree = a; stand = f; late = late v b })
                       (record {
                         place = d.place;
                         inside = d.inside;
@@ -176,10 +195,10 @@ module _ (q : Asked) (shown : ℕ) (old : List ℕ) (wide : 0 < length q.row) wh
             rest = λ x h. behind x h ∙ p.rest x (omega arith);
           }
 
-module _ (q : Asked) (shown : ℕ) (old last : List ℕ) (narrow : length q.row ≡ 0) where
-  pub none-empty : FirstValues q.rows q.lines shown q.k q.env last false None → PutOut q old old (Ok 0)
+module _ (q : Asked) (shown : ℕ) (old : List ℕ) (Late : Value → Type 0) (all : (v : Value) → Late v) (narrow : length q.row ≡ 0) where
+  none-empty : FirstValues q.rows q.lines shown q.k q.env Late None → PutOut q old old (Ok 0)
   none-empty none_left =
-      let no_row : (r : Value) → Answered q r → ⊥ = λ r w. none_left w.value (record { agree = w.agree; stand = w.stand; after = λ e. absurd (let z : ◌≡◌ {A = ℕ} 0 1 = cc in omega arith) }) in (
+      let no_row : (r : Value) → Answered q r → ⊥ = λ r w. none_left w.value (record { agree = w.agree; stand = w.stand; late = all w.value }) in (
         record {
           room = omega (arith, zero-mul (length q.row));
           answered = λ i h. absurd (omega arith);
@@ -190,7 +209,7 @@ module _ (q : Asked) (shown : ℕ) (old last : List ℕ) (narrow : length q.row 
         λ r w. absurd (no_row r w),
       )
 
-  pub one-empty : (e : List ℕ) → FirstValues q.rows q.lines shown q.k q.env last false (Some e) → PutOut q old old (Ok 1)
+  one-empty : (e : List ℕ) → FirstValues q.rows q.lines shown q.k q.env Late (Some e) → PutOut q old old (Ok 1)
   one-empty e least =
       let here : (r : Value) → Among q old 1 r = λ r. record { place = 0; inside = omega arith; is = λ c h. absurd (omega arith) } in (
         record {
@@ -203,9 +222,19 @@ module _ (q : Asked) (shown : ℕ) (old last : List ℕ) (narrow : length q.row 
         λ r w. here r,
       )
 
--- there is nothing behind the last row
-pub no_cell : (rows : List (List ℕ)) (j c : ℕ) → length rows ≤ j → row_at rows j c ≡ 0
-no_cell rows j c h = rw (get_or_past rows j [] h)
+  pub empty-out : (r : Option (List ℕ)) → FirstValues q.rows q.lines shown q.k q.env Late r → (n : ℕ) (b : Bool) → b ≡ is_some r → n ≡ bool_byte b → PutOut q old old (Ok n)
+  empty-out None least n b e g = rw (g, e) (none-empty least)
+  empty-out (Some v) least n b e g = rw (g, e) (one-empty v least)
 
-pub below_all : (rows : List (List ℕ)) → ((j c : ℕ) → j < length rows → row_at rows j c < 2 ^ 64) → Small rows
-below_all rows f j c = elim (cases_lt j (length rows)) [ inl h ↦ f j c h | inr h ↦ omega (arith, no_cell rows j c h) ]
+-- numbers of 64 bits in a row after the other are so in each row
+pub small-by : (rows : List (List ℕ)) (numbers : List ℕ) → numbers ≡ flat_map (λ x. x) rows → ((p : ℕ) → get_or numbers p 0 < 2 ^ 64) → Small rows
+small-by rows numbers e f j c = elim (cases_lt j (length rows)) [
+  | inl h ↦ elim (cases_lt c (length (get_or rows j []))) [
+    | inl g ↦ (let p = length (flat_map (λ x. x) (take j rows)) + c in
+        let q = get_or-flat_map (λ x. x) rows j c [] 0 h g in
+        let r : get_or numbers p 0 ≡ row_at rows j c = rw e q in
+        omega (arith, f p))
+    | inr g ↦ (let r : row_at rows j c ≡ 0 = get_or_past (get_or rows j []) c 0 g in omega arith)
+  ]
+  | inr h ↦ (let r : row_at rows j c ≡ 0 = rw (get_or_past rows j [] h) in omega arith)
+]

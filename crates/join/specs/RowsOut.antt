@@ -2,6 +2,7 @@
 use Rattle.std.specs.Prelude.{◌≡◌, ℕ, ◌+◌, ◌*◌, ◌<◌, ◌≤◌, ◌⊎◌, List, length, Ok, Err, Result, slice_index}
 use Rattle.join.specs.Order.{Value, Before}
 use Rattle.join.specs.Slots.{Agree, AllStand, slot}
+use Rattle.join.specs.declared.output.NoRoomAfter.{NoRoomAfter}
 
 -- the i-th of the rows of w numbers
 abbrev pub row_of : List ℕ → ℕ → ℕ → Value
@@ -45,9 +46,9 @@ pub record NoRoom (q : Asked) (out : List ℕ) (count : ℕ) : Type 0 where
   pub after : AfterAll q out count next
   pub short : length out < count * length q.row + length q.row
 
-abbrev pub PutOut : Asked → List ℕ → List ℕ → Result ℕ ℕ → Type 0
+abbrev pub PutOut : Asked → List ℕ → List ℕ → Result ℕ NoRoomAfter → Type 0
 PutOut q before out (Ok count) = Standing q before out count × ((r : Value) → Answered q r → Among q out count r)
-PutOut q before out (Err count) = Standing q before out count × NoRoom q out count
+PutOut q before out (Err e) = Standing q before out e.0 × NoRoom q out e.0
 
 -- the shown slots stand in the row in order of their first place there
 pub record Shows (row : List ℕ) (j : ℕ) : Type 0 where

@@ -1,6 +1,7 @@
 -- The least question's lines are the first by places.
 use Rattle.std.proofs.Common.{◌≡◌, ℕ, zero, suc, Bool, List, [], ◌∷◌, ◌++◌, map, length, get_or, Some, None, Option, sym, refl, ap, ◌∙◌, subst, ap₂, arith}
 use Rattle.std.specs.Option.{option_map}
+use Rattle.std.proofs.lemmas.List.{map-append}
 use Rattle.question.specs.Question.{Line, In, Same}
 use Rattle.containment.proofs.Counting.{from_on, from_in, in_from, from-rising}
 use Rattle.containment.proofs.Exactly.{within-reads}
@@ -11,10 +12,6 @@ use Rattle.minimization.proofs.Choosing.{PartOf, part_in, part-rising, choice-pa
 use Rattle.minimization.proofs.Fewest.{with_lines, reads_same, Got, got}
 
 -- choices and the first of them, from a list that is made from another
-map_join : {A B : Type 0} (f : A → B) (xs ys : List A) → map f (xs ++ ys) ≡ map f xs ++ map f ys
-map_join f [] ys = refl
-map_join {B = B} f (x ∷ xs) ys = ap {B = List B} (λ r. f x ∷ r) (map_join f xs ys)
-
 map_cons : {A B : Type 0} (f : A → B) (x : A) (cs : List (List A)) → map (λ c. f x ∷ c) (map (map f) cs) ≡ map (map f) (map (λ c. x ∷ c) cs)
 map_cons f x [] = refl
 map_cons {B = B} f x (c ∷ cs) = ap {B = List (List B)} (λ r. (f x ∷ map f c) ∷ r) (map_cons f x cs)
@@ -26,7 +23,7 @@ choices-map f (suc n) [] = refl
 choices-map {A} {B} f (suc n) (x ∷ xs) =
     ap₂ {C = List (List B)} (λ a b. map (λ c. f x ∷ c) a ++ b) (choices-map f n xs) (choices-map f (suc n) xs)
     ∙ ap (λ (a : List (List B)). a ++ map (map f) (choices (suc n) xs)) (map_cons f x (choices n xs))
-    ∙ sym (map_join (map f) (map (λ c. x ∷ c) (choices n xs)) (choices (suc n) xs))
+    ∙ sym (map-append (map f) (map (λ c. x ∷ c) (choices n xs)) (choices (suc n) xs))
 
 mapped_some : {A B : Type 0} (g : A → B) (o : Option A) (b : B) → option_map g o ≡ Some b → (a : A) × (o ≡ Some a) × (g a ≡ b)
 mapped_some g None b e = absurd (let z : ◌≡◌ {A = ℕ} 0 1 = cc e in omega arith)

@@ -1,5 +1,5 @@
 -- Choices from a list are its parts, they stand in order, and the first that passes comes before all others that do.
-use Rattle.std.proofs.Common.{◌≡◌, ℕ, zero, suc, ◌+◌, ◌<◌, Bool, true, false, cond, ◌⊎◌, List, [], ◌∷◌, ◌++◌, map, length, get_or, drop, Some, None, Option, sym, refl, ap, ◌∙◌, subst, inl, inr, arith, drop-cons}
+use Rattle.std.proofs.Common.{◌≡◌, ℕ, zero, suc, ◌+◌, ◌<◌, Bool, true, false, cond, ◌⊎◌, List, [], ◌∷◌, ◌++◌, map, length, Some, None, Option, sym, refl, ap, ◌∙◌, subst, inl, inr, arith}
 use borrow.Author.Tests.{clash}
 use Rattle.std.specs.Option.{option_or, option_map}
 use Rattle.std.proofs.lemmas.Bool.{cases_eq}
@@ -149,7 +149,7 @@ first-least {before = before} f c (Rising.and_one {a = b} {xs = cs} o r) e d i t
     (λ u e'. let z : b ≡ c = cc e' in subst (λ (x : _). (x ≡ d) ⊎ before x d) z (in_head (λ x. (b ≡ x) ⊎ before b x) (inl refl) (λ j. inr (o d j)) i))
     (λ u e'. in_head (λ x. f x ≡ true → (c ≡ x) ⊎ before c x) (λ g. absurd (clash (sym u ∙ g))) (λ j. first-least f c r e' d j) i t) e
 
--- a program's steps: with the list's first or without it, and the ends
+-- the first that passes in two lists, and in a list that is made from another
 pub first_join : {A : Type 0} (f : A → Bool) (cs ds : List A) → first_right f (cs ++ ds) ≡ option_or (first_right f cs) (first_right f ds)
 unfolding first_right
 first_join f [] ds = refl
@@ -167,25 +167,6 @@ first-map {A} {B} g f (c ∷ cs) = go (f (g c)) (first-map g f cs)
     go : (b : Bool) → first_right f (map g cs) ≡ option_map g (first_right (λ c. f (g c)) cs) → cond b (Some (g c)) (first_right f (map g cs)) ≡ option_map g (cond b (Some c) (first_right (λ c. f (g c)) cs))
     go true e = refl
     go false e = e
-
-pub first_next : {A : Type 0} (f : List A → Bool) (n : ℕ) (w : A) (ws : List A)
-    → first_right f (choices (suc n) (w ∷ ws)) ≡ option_or (option_map (λ c. w ∷ c) (first_right (λ c. f (w ∷ c)) (choices n ws))) (first_right f (choices (suc n) ws))
-unfolding choices
-first_next f n w ws =
-    first_join f (map (λ c. w ∷ c) (choices n ws)) (choices (suc n) ws) ∙ ap (λ (o : Option (List _)). option_or o (first_right f (choices (suc n) ws))) (first-map (λ c. w ∷ c) f (choices n ws))
-
-pub first-next-at : {A : Type 0} (f : List A → Bool) (n : ℕ) (ws : List A) (i : ℕ) (d : A) → i < length ws
-    → first_right f (choices (suc n) (drop i ws))
-    ≡ option_or (option_map (λ c. get_or ws i d ∷ c) (first_right (λ c. f (get_or ws i d ∷ c)) (choices n (drop (suc i) ws)))) (first_right f (choices (suc n) (drop (suc i) ws)))
-first-next-at f n ws i d h = ap (λ (xs : List _). first_right f (choices (suc n) xs)) (drop-cons ws i d h) ∙ first_next f n (get_or ws i d) (drop (suc i) ws)
-
-pub first_end : {A : Type 0} (f : List A → Bool) (n : ℕ) → first_right f (choices (suc n) []) ≡ None
-unfolding choices first_right
-first_end f n = refl
-
-pub first_last : {A : Type 0} (f : List A → Bool) (ws : List A) → first_right f (choices 0 ws) ≡ cond (f []) (Some []) None
-unfolding choices first_right
-first_last f ws = refl
 
 -- choices by size
 module _ {A : Type 0} (f : List A → Bool) (ws : List A) where

@@ -1,35 +1,29 @@
 -- The least question as it is found, and as it stands where it is written.
-use Rattle.std.proofs.Common.{◌≡◌, ℕ, ◌<◌, ◌≤◌, true, false, ltb, List, ◌++◌, length, Some, None, Option, unwrap_or, sym, refl, ap, ◌∙◌, subst, arith}
+use Rattle.std.proofs.Common.{◌≡◌, ℕ, ◌<◌, ◌≤◌, true, false, ltb, List, ◌++◌, length, Some, None, Option, Result, unwrap_or, sym, refl, ap, ◌∙◌, subst, arith}
 use Rattle.std.proofs.lemmas.Bool.Decides.{nat_tests}
 use Rattle.question.specs.declared.refusals.Refusal.{Refusal}
 use Rattle.question.specs.declared.refusals.Refusal.TheVariants.{NoRoomForQuestion}
 use Rattle.question.specs.Question.{Line, Question, In}
 use Rattle.question.specs.Sound.{sound, Allowed}
-use Rattle.question.specs.Layout.{lines_in, question_in, question_out}
+use Rattle.question.specs.Layout.{question_in, question_out}
 use Rattle.question.specs.Check.{question_refusal}
 use Rattle.question.proofs.Written.{writes_question_in}
 use Rattle.question.proofs.Accepted.{checked, accepted}
 use Rattle.question.proofs.Back.{reads_back, written_accepted}
-use Rattle.minimization.specs.declared.reply.Least.{Least as Reply}
 use Rattle.minimization.specs.Choices.{by_size}
 use Rattle.minimization.specs.Least.{says_same, least}
 use Rattle.minimization.specs.Answer.{least_refusal, answer_of, Numbered, LeastStands}
 use Rattle.minimization.proofs.Choosing.{PartOf, part_in}
-use Rattle.minimization.proofs.Fewest.{with_lines, got, some-choice, found_part, least_made}
+use Rattle.minimization.proofs.Fewest.{with_lines, got, found_part, least_made}
 
 -- what is found is the least question
 pub least-is : (q : Question) (ls : List Line) → Some ls ≡ by_size (says_same q) q.lines (length q.lines) 1 → with_lines q ls ≡ least q
 unfolding least
 least-is q ls e = ap (λ (o : Option (List Line)). with_lines q (unwrap_or o q.lines)) e
 
--- of what is found among n lent lines
-pub least_lent : (q : Question) (n : ℕ) (ws : List ℕ) (ls : List Line) → n ≡ length q.lines → lines_in (length q.lines) ws ≡ q.lines
-    → Some ls ≡ by_size (says_same q) (lines_in n ws) n 1 → with_lines q ls ≡ least q
-least_lent q n ws ls e w f = least-is q ls (f ∙ ap (λ (k : ℕ). by_size (says_same q) (lines_in k ws) k 1) e ∙ ap (λ (vs : List Line). by_size (says_same q) vs (length q.lines) 1) w)
-
-pub none_lent : (q : Question) (n : ℕ) (ws : List ℕ) → sound q ≡ true → n ≡ length q.lines → lines_in (length q.lines) ws ≡ q.lines → None ≡ by_size (says_same q) (lines_in n ws) n 1 → ⊥
-none_lent q n ws sq e w f =
-    some-choice q sq (sym (f ∙ ap (λ (k : ℕ). by_size (says_same q) (lines_in k ws) k 1) e ∙ ap (λ (vs : List Line). by_size (says_same q) vs (length q.lines) 1) w))
+-- of what is found among its lent lines
+pub among-lent : (q : Question) (ws : List Line) (n : ℕ) (o : Option (List Line)) → ws ≡ q.lines → n ≡ length ws → o ≡ by_size (says_same q) ws n 1 → o ≡ by_size (says_same q) q.lines (length q.lines) 1
+among-lent q ws n o w e h = h ∙ ap (λ (k : ℕ). by_size (says_same q) ws k 1) e ∙ ap (λ (vs : List Line). by_size (says_same q) vs (length vs) 1) w
 
 -- its lines are the question's
 least-row : (q : Question) → (least q).row ≡ q.row
@@ -91,8 +85,8 @@ unfolding least_refusal
 refused_not xs out h r = let t : ltb (length out) 50 ≡ false = grind (arith, nat_tests) in rw (h, t)
 
 -- the number and the values of an answer
-pub numbered : (o : Option Refusal) (n : ℕ) (r : Reply) → r ≡ answer_of o n → Numbered r o n
-numbered o n r e = subst (λ (a : Reply). Numbered a o n) (sym e) (go o)
+pub numbered : (o : Option Refusal) (n : ℕ) (r : Result ℕ Refusal) → r ≡ answer_of o n → Numbered r o n
+numbered o n r e = subst (λ (a : Result ℕ Refusal). Numbered a o n) (sym e) (go o)
   where
     go : (o : Option Refusal) → Numbered (answer_of o n) o n
     go None = record { number = refl; values = refl }

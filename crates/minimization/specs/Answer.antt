@@ -1,13 +1,11 @@
 -- What making a question least answers and leaves, case by case, and what that means. Assumes nothing: these are definitions.
-use Rattle.std.specs.Prelude.{◌≡◌, ℕ, ◌<◌, cond, List, [], ◌∷◌, ◌++◌, length, drop, Some, None, Option, nat_lt}
+use Rattle.std.specs.Prelude.{◌≡◌, ℕ, ◌<◌, cond, List, [], ◌∷◌, ◌++◌, length, drop, Some, None, Option, Ok, Err, Result, nat_lt}
 use Rattle.std.specs.Option.{option_or}
 use Rattle.question.specs.declared.refusals.Refusal.{Refusal}
 use Rattle.question.specs.declared.refusals.Refusal.TheVariants.{NoRoomForQuestion}
 use Rattle.question.specs.Layout.{question_in, question_out}
 use Rattle.question.specs.Refusals.{number, place, told_number, told_values}
 use Rattle.question.specs.Check.{question_refusal, IsQuestion}
-use Rattle.minimization.specs.declared.reply.Least.{Least as Reply}
-use Rattle.minimization.specs.declared.reply.Least.TheVariants.{Lines, Refused}
 use Rattle.minimization.specs.Least.{Least, least}
 
 -- how a call is turned away: as its question is (1, 2), else for want of room (4)
@@ -15,27 +13,27 @@ unfoldable pub least_refusal : (question out : List ℕ) → Option Refusal
 least_refusal question out = option_or (question_refusal question) (cond (nat_lt (length out) 50) (Some (NoRoomForQuestion (length out))) None)
 
 -- what is answered where a call is turned away or not, and n lines are least
-abbrev pub answer_of : Option Refusal → (n : ℕ) → Reply
-answer_of None n = Lines n
-answer_of (Some e) n = Refused e
+abbrev pub answer_of : Option Refusal → (n : ℕ) → Result ℕ Refusal
+answer_of None n = Ok n
+answer_of (Some e) n = Err e
 
 -- the number of an answer: 0, or that of the refusal
-abbrev pub number_of : Reply → ℕ
-number_of (Lines n) = 0
-number_of (Refused e) = number e
+abbrev pub number_of : Result ℕ Refusal → ℕ
+number_of (Ok n) = 0
+number_of (Err e) = number e
 
 -- the values told with it: how many lines are least, or the refusal's place
-abbrev pub values_of : Reply → List ℕ
-values_of (Lines n) = n ∷ []
-values_of (Refused e) = place e ∷ []
+abbrev pub values_of : Result ℕ Refusal → List ℕ
+values_of (Ok n) = n ∷ []
+values_of (Err e) = place e ∷ []
 
 -- the number and the values that an answer tells, where a call is turned away or not, and n lines are least
-pub record Numbered (r : Reply) (refusal : Option Refusal) (n : ℕ) : Type 0 where
+pub record Numbered (r : Result ℕ Refusal) (refusal : Option Refusal) (n : ℕ) : Type 0 where
   pub number : number_of r ≡ told_number refusal
   pub values : values_of r ≡ told_values refusal (n ∷ [])
 
 -- what is answered
-unfoldable pub least_says : (question out : List ℕ) → Reply
+unfoldable pub least_says : (question out : List ℕ) → Result ℕ Refusal
 least_says question out = answer_of (least_refusal question out) (length (least (question_in question)).lines)
 
 -- what lies in out where a call is turned away or not
@@ -60,6 +58,6 @@ pub record TurnedAway (question before out : List ℕ) : Type 0 where
   pub why : IsQuestion question → length before < 50
 
 -- a least question stands in out, or the call is turned away
-unfoldable pub MeantLeast : (question before out : List ℕ) → Reply → Type 0
-MeantLeast question before out (Lines n) = LeastStands question out n
-MeantLeast question before out (Refused e) = TurnedAway question before out
+unfoldable pub MeantLeast : (question before out : List ℕ) → Result ℕ Refusal → Type 0
+MeantLeast question before out (Ok n) = LeastStands question out n
+MeantLeast question before out (Err e) = TurnedAway question before out

@@ -13,6 +13,10 @@ unfoldable pub first_right : {A : Type 0} → (A → Bool) → List A → Option
 first_right f [] = None
 first_right f (c ∷ cs) = cond (f c) (Some c) (first_right f cs)
 
+-- the first that passes of the choices that begin with p and go on with n of the list
+unfoldable pub first_after : {A : Type 0} → (f : List A → Bool) (p : List A) (n : ℕ) (ws : List A) → Option (List A)
+first_after f p n ws = first_right f (map (λ c. p ++ c) (choices n ws))
+
 -- the first choice that passes, of k sizes from n on
 unfoldable pub by_size : {A : Type 0} → (List A → Bool) → List A → (k n : ℕ) → Option (List A)
 by_size f ws zero n = None

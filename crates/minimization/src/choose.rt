@@ -1,170 +1,130 @@
-// The first choice of n lines that passes a test, by size and then by places.
-ghost use Rattle.std.specs.Prelude.{◌≡◌, ◌+◌, ◌*◌, ◌<◌, ◌≤◌, true, [], ◌∷◌, ◌++◌, length};
+// The first choice of lines that passes a test, by size and then by places.
+ghost use Rattle.std.specs.Prelude.{◌≡◌, ◌<◌, ◌≤◌, length};
 ghost use Rattle.std.specs.Option.{option_map};
-ghost use Rattle.question.specs.Question.{Line, In};
-ghost use Rattle.question.specs.Layout.{lines_in, lines_fit};
-ghost use Rattle.minimization.specs.Choices.{choices, first_right, by_size};
-ghost use Rattle.minimization.specs.Meant.{meant, nth};
+ghost use Rattle.question.specs.Lent.{lines_of};
+ghost use Rattle.minimization.specs.Choices.{choices, first_right, first_after, by_size};
+ghost use Rattle.minimization.specs.Meant.{meant};
 
 use super::chosen::Chosen;
 use super::test::Test;
-use question::nth_line;
+use question::Lines;
 
-// No line.
-fn none_chosen() -> Chosen
-    ensures { (meant result ≡ []) × (result.count ≡ 0) }
-{
-    Chosen {
-        count: 0,
-        lines: [0; 40],
-    }
+// Lines to choose from, and the test that a choice of them has to pass.
+#[derive(Clone, Copy)]
+pub struct Candidates<'a, T: Test> {
+    pub test: T,
+    pub lines: Lines<'a, 16>,
 }
 
-// The choice and the i-th of m lines.
-fn with_nth(chosen: Chosen, lines: &[u64], m: usize, i: usize) -> Chosen
-    requires lent { (10 * m ≤ length lines.now) × (lines_fit 16 m lines.now ≡ true) }
-    requires within { (i < m) × (chosen.count < 4) }
-    ensures { (meant result ≡ meant chosen ++ nth (lines_in m lines.now) i ∷ []) × (result.count ≡ chosen.count + 1) }
-{
-    let mut more = chosen.lines;
-    let start = 10 * chosen.count;
-    more[start..start + 10].copy_from_slice(nth_line(lines, i));
-    Chosen {
-        count: chosen.count + 1,
-        lines: more,
-    }
-}
-
-// Whether a choice passes.
-fn passes<T: Test>(test: &T, chosen: &Chosen) -> bool
-    requires asked { T.ready test.now }
-    requires taken { (l : Line) → In l (meant chosen.now) → T.takes test.now l }
-    ensures { result ≡ T.decides test.now (meant chosen.now) }
-{
-    test.passes(&chosen.lines, chosen.count)
-}
-
-// The first line that passes.
-fn first_one<T: Test>(test: &T, lines: &[u64], m: usize) -> Option<Chosen>
-    requires asked { T.ready test.now }
-    requires lent { (10 * m ≤ length lines.now) × (lines_fit 16 m lines.now ≡ true) }
-    requires taken { (l : Line) → In l (lines_in m lines.now) → T.takes test.now l }
-    ensures { option_map meant result ≡ first_right (T.decides test.now) (choices 1 (lines_in m lines.now)) }
-{
-    let none = none_chosen();
-    for a in 0..m {
-        let one = with_nth(none, lines, m, a);
-        if passes(test, &one) {
-            return Some(one);
+// Choices of two, three and four lines are tried by nested loops, which are left from inside by a label.
+impl<'a, T: Test> Candidates<'a, T> {
+    // The chosen lines and the first of those behind them that they pass with.
+    fn first_with(&self, chosen: &Chosen, behind: &Lines<'_, 16>) -> Option<Chosen>
+        requires { length (meant chosen.now) < 4 }
+        ensures { option_map meant result ≡ first_after (T.decides self.now.test) (meant chosen.now) 1 (lines_of behind.now) }
+    {
+        for line in *behind {
+            let more = chosen.with(&line);
+            if self.test.passes(&more.lines()) {
+                return Some(more);
+            }
         }
+        None
     }
-    None
-}
 
-// The first two lines that pass.
-fn first_two<T: Test>(test: &T, lines: &[u64], m: usize) -> Option<Chosen>
-    requires asked { T.ready test.now }
-    requires lent { (10 * m ≤ length lines.now) × (lines_fit 16 m lines.now ≡ true) }
-    requires taken { (l : Line) → In l (lines_in m lines.now) → T.takes test.now l }
-    ensures { option_map meant result ≡ first_right (T.decides test.now) (choices 2 (lines_in m lines.now)) }
-{
-    let none = none_chosen();
-    let mut first = None;
-    'found: for a in 0..m {
-        let one = with_nth(none, lines, m, a);
-        for b in a + 1..m {
-            let two = with_nth(one, lines, m, b);
-            if passes(test, &two) {
+    // The first line that passes.
+    fn first_one(&self) -> Option<Chosen>
+        ensures { option_map meant result ≡ first_right (T.decides self.now.test) (choices 1 (lines_of self.now.lines)) }
+    {
+        self.first_with(&Chosen::nothing(), &self.lines)
+    }
+
+    // The first two lines that pass.
+    fn first_two(&self) -> Option<Chosen>
+        ensures { option_map meant result ≡ first_right (T.decides self.now.test) (choices 2 (lines_of self.now.lines)) }
+    {
+        let none = Chosen::nothing();
+        let mut first = None;
+        let mut behind_a = self.lines;
+        'found: while let Some(a) = behind_a.next() {
+            let one = none.with(&a);
+            if let Some(two) = self.first_with(&one, &behind_a) {
                 first = Some(two);
                 break 'found;
             }
         }
+        first
     }
-    first
-}
 
-// The first three lines that pass.
-fn first_three<T: Test>(test: &T, lines: &[u64], m: usize) -> Option<Chosen>
-    requires asked { T.ready test.now }
-    requires lent { (10 * m ≤ length lines.now) × (lines_fit 16 m lines.now ≡ true) }
-    requires taken { (l : Line) → In l (lines_in m lines.now) → T.takes test.now l }
-    ensures { option_map meant result ≡ first_right (T.decides test.now) (choices 3 (lines_in m lines.now)) }
-{
-    let none = none_chosen();
-    let mut first = None;
-    'found: for a in 0..m {
-        let one = with_nth(none, lines, m, a);
-        for b in a + 1..m {
-            let two = with_nth(one, lines, m, b);
-            for c in b + 1..m {
-                let three = with_nth(two, lines, m, c);
-                if passes(test, &three) {
+    // The first three lines that pass.
+    fn first_three(&self) -> Option<Chosen>
+        ensures { option_map meant result ≡ first_right (T.decides self.now.test) (choices 3 (lines_of self.now.lines)) }
+    {
+        let none = Chosen::nothing();
+        let mut first = None;
+        let mut behind_a = self.lines;
+        'found: while let Some(a) = behind_a.next() {
+            let one = none.with(&a);
+            let mut behind_b = behind_a;
+            while let Some(b) = behind_b.next() {
+                let two = one.with(&b);
+                if let Some(three) = self.first_with(&two, &behind_b) {
                     first = Some(three);
                     break 'found;
                 }
             }
         }
+        first
     }
-    first
-}
 
-// The first four lines that pass.
-fn first_four<T: Test>(test: &T, lines: &[u64], m: usize) -> Option<Chosen>
-    requires asked { T.ready test.now }
-    requires lent { (10 * m ≤ length lines.now) × (lines_fit 16 m lines.now ≡ true) }
-    requires taken { (l : Line) → In l (lines_in m lines.now) → T.takes test.now l }
-    ensures { option_map meant result ≡ first_right (T.decides test.now) (choices 4 (lines_in m lines.now)) }
-{
-    let none = none_chosen();
-    let mut first = None;
-    'found: for a in 0..m {
-        let one = with_nth(none, lines, m, a);
-        for b in a + 1..m {
-            let two = with_nth(one, lines, m, b);
-            for c in b + 1..m {
-                let three = with_nth(two, lines, m, c);
-                for d in c + 1..m {
-                    let four = with_nth(three, lines, m, d);
-                    if passes(test, &four) {
+    // The first four lines that pass.
+    fn first_four(&self) -> Option<Chosen>
+        ensures { option_map meant result ≡ first_right (T.decides self.now.test) (choices 4 (lines_of self.now.lines)) }
+    {
+        let none = Chosen::nothing();
+        let mut first = None;
+        let mut behind_a = self.lines;
+        'found: while let Some(a) = behind_a.next() {
+            let one = none.with(&a);
+            let mut behind_b = behind_a;
+            while let Some(b) = behind_b.next() {
+                let two = one.with(&b);
+                let mut behind_c = behind_b;
+                while let Some(c) = behind_c.next() {
+                    let three = two.with(&c);
+                    if let Some(four) = self.first_with(&three, &behind_c) {
                         first = Some(four);
                         break 'found;
                     }
                 }
             }
         }
+        first
     }
-    first
-}
 
-// The first choice of n lines that passes.
-pub fn first_choice<T: Test>(test: &T, lines: &[u64], m: usize, n: usize) -> Option<Chosen>
-    requires asked { T.ready test.now }
-    requires lent { (10 * m ≤ length lines.now) × (lines_fit 16 m lines.now ≡ true) }
-    requires taken { (l : Line) → In l (lines_in m lines.now) → T.takes test.now l }
-    requires size { (1 ≤ n) × (n ≤ 4) }
-    ensures { option_map meant result ≡ first_right (T.decides test.now) (choices n (lines_in m lines.now)) }
-{
-    match n {
-        1 => first_one(test, lines, m),
-        2 => first_two(test, lines, m),
-        3 => first_three(test, lines, m),
-        _ => first_four(test, lines, m),
-    }
-}
-
-// The first choice that passes: the fewest lines, at most `most`, and of those the first by places.
-pub fn first_of_sizes<T: Test>(test: &T, lines: &[u64], m: usize, most: usize) -> Option<Chosen>
-    requires asked { T.ready test.now }
-    requires lent { (10 * m ≤ length lines.now) × (lines_fit 16 m lines.now ≡ true) }
-    requires taken { (l : Line) → In l (lines_in m lines.now) → T.takes test.now l }
-    requires size { most ≤ 4 }
-    ensures { option_map meant result ≡ by_size (T.decides test.now) (lines_in m lines.now) most 1 }
-{
-    for n in 1..most + 1 {
-        let first = first_choice(test, lines, m, n);
-        if first.is_some() {
-            return first;
+    // The first choice of n lines that passes.
+    pub fn first_choice(&self, n: usize) -> Option<Chosen>
+        requires { (1 ≤ n) × (n ≤ 4) }
+        ensures { option_map meant result ≡ first_right (T.decides self.now.test) (choices n (lines_of self.now.lines)) }
+    {
+        match n {
+            1 => self.first_one(),
+            2 => self.first_two(),
+            3 => self.first_three(),
+            _ => self.first_four(),
         }
     }
-    None
+
+    // The first choice that passes: the fewest lines, at most `most`, and of those the first by places.
+    pub fn first_of_sizes(&self, most: usize) -> Option<Chosen>
+        requires { most ≤ 4 }
+        ensures { option_map meant result ≡ by_size (T.decides self.now.test) (lines_of self.now.lines) most 1 }
+    {
+        for n in 1..=most {
+            if let Some(first) = self.first_choice(n) {
+                return Some(first);
+            }
+        }
+        None
+    }
 }

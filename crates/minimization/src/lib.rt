@@ -4,16 +4,14 @@
 mod choose;
 mod chosen;
 mod laws;
-mod reply;
 mod shorten;
 mod test;
 
-pub use choose::{first_choice, first_of_sizes};
+pub use choose::Candidates;
 pub use chosen::Chosen;
 pub use laws::{
     all_least_are_alike, least_has_the_fewest_lines, least_is_first_by_places, least_is_least,
     two_least_choices_and_ours,
 };
-pub use reply::Least;
 pub use shorten::least;
 pub use test::Test;

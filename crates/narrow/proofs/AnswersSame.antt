@@ -5,6 +5,7 @@ use Rattle.join.specs.Order.{Value}
 use Rattle.join.specs.Slots.{Agree, AllStand, SlotsBelow, Stands, slot}
 use Rattle.join.specs.FirstValues.{AllBelow, Covered, HasSlot, Names}
 use Rattle.join.specs.RowsOut.{Among, Answered, PutOut, Standing, row_of}
+use Rattle.join.specs.declared.output.NoRoomAfter.{NoRoomAfter}
 use Rattle.join.proofs.Bounds.{all-stand, line_of}
 use Rattle.join.proofs.Ordering.{cases_eq}
 use Rattle.narrow.specs.Rows.{Held, SameRows}
@@ -253,9 +254,9 @@ module _ (k : ℕ) (env row : List ℕ) (rows lines new-rows new-lines : List (L
     rest = s.rest;
   }
 
-  pub put-out-same : (before out : List ℕ) (r : Result ℕ ℕ) → PutOut (asked k env row new-rows new-lines) before out r → PutOut (asked k env row rows lines) before out r
+  pub put-out-same : (before out : List ℕ) (r : Result ℕ NoRoomAfter) → PutOut (asked k env row new-rows new-lines) before out r → PutOut (asked k env row rows lines) before out r
   put-out-same before out (Ok count) p = (standing-same before out count p.0, λ r w. among_same out count r (p.1 r ((same r).0 w)))
-  put-out-same before out (Err count) p = (
-    standing-same before out count p.0,
+  put-out-same before out (Err e) p = (
+    standing-same before out e.0 p.0,
     record { next = p.1.next; answered = (same p.1.next).1 p.1.answered; after = p.1.after; short = p.1.short },
   )

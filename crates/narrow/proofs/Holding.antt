@@ -1,13 +1,12 @@
 -- The rows that a list has when one is put behind it.
-use Rattle.std.proofs.Common.{◌≡◌, ℕ, zero, suc, ◌+◌, ◌<◌, ◌⊎◌, List, [], ◌∷◌, ◌++◌, length, get_or, sym, refl, ap, ◌∙◌, subst, inl, inr, arith}
+use Rattle.std.proofs.Common.{◌≡◌, ℕ, zero, suc, ◌+◌, ◌<◌, ◌⊎◌, List, [], ◌∷◌, ◌++◌, length, get_or, sym, refl, ap, ◌∙◌, inl, inr, arith}
 use Rattle.std.proofs.lemmas.Bool.{cases_lt}
 use Rattle.std.proofs.lemmas.List.Sorted.{IsPermutation-sym}
 use Rattle.std.proofs.ByRecursion.{has_shuffled}
 use Rattle.std.proofs.lemmas.List.{get_or_default}
 use Rattle.std.specs.List.Sorted.{IsPermutation}
 use Rattle.std.specs.List.{ContainsAt as Has}
-use Rattle.join.specs.Order.{Value, Before, Sorted, cells, row_at}
-use Rattle.join.proofs.Progress.{before_same}
+use Rattle.join.specs.Order.{Value, row_at}
 use Rattle.narrow.specs.Rows.{Held, SameRows}
 
 at_front : (xs : List (List ℕ)) (x : List ℕ) (j : ℕ) → j < length xs → get_or (xs ++ x ∷ []) j [] ≡ get_or xs j []
@@ -53,22 +52,6 @@ held_same xs f g e h = record { place = h.place; inside = h.inside; is = λ c l.
 
 pub held_at : (xs : List (List ℕ)) (j : ℕ) → j < length xs → Held xs (row_at xs j)
 held_at xs j h = record { place = j; inside = h; is = λ c g. refl }
-
--- a row that comes before none of the sorted rows may stand behind them
-pub sorted_more : (xs : List (List ℕ)) (x : List ℕ) → Sorted xs → ((f : Value) → Held xs f → Before 5 (cells x) f → ⊥) → Sorted (xs ++ x ∷ [])
-sorted_more xs x s last i j h g b = elim (cases_lt j (length xs)) [
-  | inl l ↦ s i j h l (before_same 5 (row_at (xs ++ x ∷ []) j) (row_at xs j) (row_at (xs ++ x ∷ []) i) (row_at xs i)
-      (λ c _. ap (λ r. get_or r c 0) (at_front xs x j l)) (λ c _. ap (λ r. get_or r c 0) (at_front xs x i (omega arith))) b)
-  | inr l ↦
-      let e : j ≡ length xs = omega (arith, longer xs x) in
-      let is_last : (c : ℕ) → row_at (xs ++ x ∷ []) j c ≡ get_or x c 0 = λ c. ap (λ r. get_or r c 0) (ap (λ k. get_or (xs ++ x ∷ []) k []) e ∙ at_last xs x) in
-      elim (cases_lt i (length xs)) [
-        | inl m ↦ last (row_at xs i) (held_at xs i m) (before_same 5 (row_at (xs ++ x ∷ []) j) (cells x) (row_at (xs ++ x ∷ []) i) (row_at xs i)
-            (λ c _. is_last c) (λ c _. ap (λ r. get_or r c 0) (at_front xs x i m)) b)
-        | inr m ↦ (let q : i ≡ j = omega arith in
-            let le : row_at (xs ++ x ∷ []) j b.place < row_at (xs ++ x ∷ []) j b.place = subst (λ y. row_at (xs ++ x ∷ []) j b.place < row_at (xs ++ x ∷ []) y b.place) q b.less in omega arith)
-      ]
-]
 
 -- the same rows in another order
 held_shuffled : (xs ys : List (List ℕ)) → IsPermutation xs ys → (f : Value) → Held xs f → Held ys f

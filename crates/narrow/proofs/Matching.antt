@@ -1,5 +1,7 @@
 -- The rows of the new line, put behind one another.
 use Rattle.std.proofs.Common.{◌≡◌, ℕ, zero, suc, ◌+◌, ◌<◌, ◌≤◌, ◌≢◌, ◌⊎◌, List, [], ◌∷◌, ◌++◌, length, get_or, IfSome, Some, None, Option, sym, refl, ap, ◌∙◌, subst, inl, inr, arith}
+use Rattle.std.proofs.Math.Logic.{∥∥₁_elim}
+use Rattle.std.specs.Coded.{Coded-set, coded_ℕ}
 use Rattle.std.proofs.lemmas.Bool.{cases_lt}
 use Rattle.join.specs.Order.{Value, Before, Sorted, cells, row_at}
 use Rattle.join.specs.Slots.{slot, under}
@@ -39,7 +41,7 @@ module _ (first second new : List ℕ) (k : ℕ) (env : List ℕ) where
         all = λ q l e v w. absurd (none_both v (pair_same f (row_by env second keys p) g v (λ c o. sym (is c o)) (subst (λ x. Pair first second f (row_by env second keys x) k env v) e w)));
       }
 
-      pub matched-one : (e x : List ℕ) → Both first second f g k env (Some e) → WithinBoth first second new → x ≡ under new e → Matched first second new k env f keys (λ q. q ≡ p) out (out ++ x ∷ [])
+      pub matched-one : (e x : List ℕ) → Both first second f g k env (Some e) → ∥ WithinBoth first second new ∥₁ → x ≡ under new e → Matched first second new k env f keys (λ q. q ≡ p) out (out ++ x ∷ [])
       matched-one e x both within is_row =
           let at : (c : ℕ) → c < 5 → get_or x c 0 ≡ get_or e (slot new c) 0 = λ c l. ap (λ r. get_or r c 0) is_row ∙ under_at new e c l in
           record {
@@ -52,8 +54,9 @@ module _ (first second new : List ℕ) (k : ℕ) (env : List ℕ) where
               })
             ];
             stay = λ h l. held-front out x h l;
-            all = λ q l d v w. held_last out x (λ c. v (slot new c)) (λ c m. at c m
-                ∙ both.1 v (pair_same f (row_by env second keys p) g v (λ b o. sym (is b o)) (subst (λ y. Pair first second f (row_by env second keys y) k env v) d w)) (slot new c) (within c m));
+            all = λ q l d v w.
+                let pair = pair_same f (row_by env second keys p) g v (λ b o. sym (is b o)) (subst (λ y. Pair first second f (row_by env second keys y) k env v) d w) in
+                held_last out x (λ c. v (slot new c)) (λ c m. at c m ∙ ∥∥₁_elim within (Coded-set coded_ℕ (get_or e (slot new c) 0) (v (slot new c))) (λ (o : WithinBoth first second new). both.1 v pair (slot new c) (o c m)));
           }
 
     -- the keys with a number are those from the first that does not come before it up to the first that is larger

@@ -1,59 +1,45 @@
--- Sorted rows gone through, those that are repeated left out; and rows keyed.
-use Rattle.std.proofs.Common.{◌≡◌, ℕ, ◌+◌, ◌-◌, ◌<◌, ◌≢◌, List, [], ◌∷◌, ◌++◌, length, get_or, sym, ap, ◌∙◌, subst, inl, inr, arith}
+-- Sorted rows, those that are repeated left out; and rows keyed.
+use Rattle.std.proofs.Common.{◌≡◌, ℕ, ◌+◌, ◌<◌, ◌≢◌, true, List, [], ◌∷◌, ◌++◌, length, get_or, Ordering, Less, Equal, Greater, nat_eq, sym, ap, ◌∙◌, subst, inl, inr, arith}
+use Rattle.std.specs.Cmp.Lexicographic.{nat_list_cmp_total, nat_list_eq_equiv, bytes_decides, pointwise, slice_cmp, texts_ties}
+use Rattle.std.specs.List.{Contains, dedup}
+use Rattle.std.specs.List.Sorted.{IsSorted, IsStrictlySortedBy}
+use Rattle.std.specs.Ordering.{is_lt, nat_cmp, ordering_reverse}
 use Rattle.std.proofs.lemmas.Bool.{cases_lt}
+use Rattle.std.proofs.lemmas.List.{get_or_default}
+use Rattle.std.proofs.lemmas.List.Kept.{Contains-dedup, Contains-from_dedup, IsStrictlySortedBy-dedup}
+use Rattle.std.proofs.lemmas.Map.Keys.{Less-from_sorted}
 use Rattle.join.specs.Order.{Value, Sorted, cells, row_at}
-use Rattle.join.proofs.Progress.{before_same}
+use Rattle.join.proofs.Lexical.{less-by}
 use Rattle.narrow.specs.Rows.{Held, Keyed, SameRows, Source, with_front}
-use Rattle.narrow.proofs.Holding.{held-front, held_last, held_cases, held_none, held_same, sorted_more}
+use Rattle.narrow.proofs.Holding.{held-front, held_last, held_cases, held_none, held_same}
 
--- one of the first i rows
-pub record BeforePlace (rows : List (List ℕ)) (i : ℕ) (f : Value) : Type 0 where
-  pub place : ℕ
-  pub inside : place < i
-  pub is : (c : ℕ) → c < 5 → row_at rows place c ≡ f c
+not-both : (o p : Ordering) → o ≡ ordering_reverse p → o ≡ Less → is_lt p ≡ true → ⊥
+not-both o Less e l t = let z : ◌≡◌ {A = ℕ} 0 1 = cc in omega arith
+not-both o Equal e l t = let z : ◌≡◌ {A = ℕ} 0 1 = cc in omega arith
+not-both o Greater e l t = let z : ◌≡◌ {A = ℕ} 0 1 = cc in omega arith
 
-pub record Passed (rows : List (List ℕ)) (i : ℕ) (kept : List (List ℕ)) : Type 0 where
-  pub sorted : Sorted kept
-  pub only : (f : Value) → Held kept f → BeforePlace rows i f
-  pub each : (j : ℕ) → j < i → Held kept (row_at rows j)
+sorted-once : (rows : List (List ℕ)) → IsStrictlySortedBy (slice_cmp nat_cmp) rows → Sorted rows
+sorted-once rows s i j h g b = elim (cases_lt i j) [
+  | inl l ↦ not-both (slice_cmp nat_cmp (get_or rows i []) (get_or rows j [])) (slice_cmp nat_cmp (get_or rows j []) (get_or rows i []))
+      (nat_list_cmp_total.antisymm (get_or rows i []) (get_or rows j [])) (Less-from_sorted (slice_cmp nat_cmp) rows i j [] s l g) (less-by 5 (get_or rows j []) (get_or rows i []) b)
+  | inr l ↦ (let e : i ≡ j = omega arith in let m : row_at rows j b.place < row_at rows j b.place = rw e at b.less in omega arith)
+]
 
-pub passed_begin : (rows kept : List (List ℕ)) → kept ≡ [] → Passed rows 0 kept
-passed_begin rows kept e = rw e (record { sorted = λ i j h g. absurd (omega arith); only = λ f h. absurd (held_none f h); each = λ j h. absurd (omega arith) })
+contains-held : (rows : List (List ℕ)) (f : Value) (h : Held rows f) → Contains rows (get_or rows h.place [])
+contains-held rows f h = (h.place, h.inside, get_or_default rows h.place (get_or rows h.place []) [] h.inside)
 
-later : (rows : List (List ℕ)) (i : ℕ) (f : Value) → BeforePlace rows i f → BeforePlace rows (i + 1) f
-later rows i f p = record { place = p.place; inside = omega (arith, p.inside); is = p.is }
+held-contains : (rows : List (List ℕ)) (x : List ℕ) → Contains rows x → Held rows (cells x)
+held-contains rows x m = record { place = m.0; inside = m.1; is = λ c _. ap (λ r. get_or r c 0) (get_or_default rows m.0 [] x m.1 ∙ m.2) }
 
-pub passed_again : (rows : List (List ℕ)) (i : ℕ) (kept : List (List ℕ)) → (0 < i) × ((c : ℕ) → c < 5 → row_at rows i c ≡ row_at rows (i - 1) c) → Passed rows i kept → Passed rows (i + 1) kept
-passed_again rows i kept s p = record {
-  sorted = p.sorted;
-  only = λ f h. later rows i f (p.only f h);
-  each = λ j h. elim (cases_lt j i) [
-    | inl l ↦ p.each j l
-    | inr l ↦ (let e : i ≡ j = omega arith in
-        subst (λ x. Held kept (row_at rows x)) e (held_same kept (row_at rows (i - 1)) (row_at rows i) (λ c g. sym (s.1 c g)) (p.each (i - 1) (omega (arith, s.0)))))
-  ];
-}
-
-pub passed_more : (rows : List (List ℕ)) (i : ℕ) (kept : List (List ℕ)) (x : List ℕ) → Sorted rows → i < length rows → x ≡ get_or rows i [] → Passed rows i kept → Passed rows (i + 1) (kept ++ x ∷ [])
-passed_more rows i kept x s h e p = record {
-  sorted = sorted_more kept x p.sorted (λ f g b. let q = p.only f g in
-      s q.place i (omega (arith, q.inside)) h (before_same 5 (cells x) (row_at rows i) f (row_at rows q.place) (λ c _. ap (λ r. get_or r c 0) e) (λ c l. sym (q.is c l)) b));
-  only = λ f g. elim (held_cases kept x f g) [
-    | inl l ↦ later rows i f (p.only f l)
-    | inr l ↦ record { place = i; inside = omega arith; is = λ c m. ap (λ r. get_or r c 0) (sym e) ∙ l c m }
-  ];
-  each = λ j g. elim (cases_lt j i) [
-    | inl l ↦ held-front kept x (row_at rows j) (p.each j l)
-    | inr l ↦ (let q : i ≡ j = omega arith in held_last kept x (row_at rows j) (λ c _. ap (λ r. get_or r c 0) (e ∙ ap (λ y. get_or rows y []) q)))
-  ];
-}
-
-pub passed_end : (rows : List (List ℕ)) (i : ℕ) (kept : List (List ℕ)) → i ≡ length rows → Passed rows i kept → Sorted kept × SameRows rows kept
-passed_end rows i kept e p = (
-  p.sorted,
+-- rows in order, those that are repeated left out
+pub once : (rows left : List (List ℕ)) → IsSorted (slice_cmp nat_cmp) rows → left ≡ dedup (pointwise nat_eq) rows → Sorted left × SameRows rows left
+once rows left up e = (
+  sorted-once left (rw e (IsStrictlySortedBy-dedup nat_list_cmp_total texts_ties rows up)),
   λ f. (
-    λ h. held_same kept (row_at rows h.place) f h.is (p.each h.place (omega (arith, h.inside))),
-    λ h. let q = p.only f h in record { place = q.place; inside = omega (arith, q.inside); is = q.is },
+    λ h. let x = get_or rows h.place [] in
+        held_same left (cells x) f h.is (held-contains left x (rw e (Contains-dedup nat_list_eq_equiv (λ a b. (bytes_decides a b).0) rows x (contains-held rows f h)))),
+    λ h. let x = get_or left h.place [] in
+        held_same rows (cells x) f h.is (held-contains rows x (Contains-from_dedup (pointwise nat_eq) rows x (subst (λ l. Contains l x) e (contains-held left f h)))),
   ),
 )
 

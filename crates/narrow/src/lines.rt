@@ -1,44 +1,21 @@
 // The line that two lines become, and the lines that are left.
 ghost use Rattle.std.specs.Prelude.{◌≡◌, ℕ, ◌<◌, ◌≤◌, true, false, ◌≢◌, ◌⊎◌, [], length, IfSome, vec_len, slice_index_or};
-ghost use Rattle.join.specs.Slots.{slot};
+ghost use Rattle.join.specs.Slots.{SlotsBelow, slot};
 ghost use Rattle.join.specs.FirstValues.{AllBelow, Names};
 ghost use Rattle.narrow.specs.Joining.{Apart, Either, Free, Gathered, Replaced, number};
 
-use join::names;
-
-// Whether one of two lines names the slot.
-fn either(first: &[usize; 5], second: &[usize; 5], j: usize) -> bool
-    ensures yes { result ≡ true → Either first.now second.now j }
-    ensures no { result ≡ false → Either first.now second.now j → ⊥ }
-{
-    if names(first, j) {
-        return true;
-    }
-    names(second, j)
-}
-
-// Whether the line i is another than the two and names the slot.
-fn other_names(lines: &[[usize; 5]], i: usize, a: usize, b: usize, j: usize) -> bool
-    requires { i < length lines.now }
-    ensures yes { result ≡ true → (i ≢ a) × (i ≢ b) × Names (slice_index_or lines.now i []) j }
-    ensures no { result ≡ false → i ≢ a → i ≢ b → Names (slice_index_or lines.now i []) j → ⊥ }
-{
-    if i == a || i == b {
-        return false;
-    }
-    names(&lines[i], j)
-}
+use join::{Setting, SlotLine, names};
 
 // Whether the slot is shown, or another line than the two names it.
-fn wanted(lines: &[[usize; 5]], a: usize, b: usize, shown: usize, j: usize) -> bool
+fn wanted(lines: &[SlotLine], a: usize, b: usize, shown: usize, j: usize) -> bool
     ensures yes { result ≡ true → Free lines.now a b shown j → ⊥ }
     ensures no { result ≡ false → Free lines.now a b shown j }
 {
     if j < shown {
         return true;
     }
-    for i in 0..lines.len() {
-        if other_names(lines, i, a, b, j) {
+    for (i, line) in lines.iter().enumerate() {
+        if i != a && i != b && names(line, j) {
             return true;
         }
     }
@@ -46,33 +23,27 @@ fn wanted(lines: &[[usize; 5]], a: usize, b: usize, shown: usize, j: usize) -> b
 }
 
 // Whether the new line has the slot.
-fn kept(lines: &[[usize; 5]], a: usize, b: usize, shown: usize, j: usize) -> bool
+fn kept(lines: &[SlotLine], a: usize, b: usize, shown: usize, j: usize) -> bool
     requires { (a < length lines.now) × (b < length lines.now) }
     ensures yes { result ≡ true → Either (slice_index_or lines.now a []) (slice_index_or lines.now b []) j × (Free lines.now a b shown j → ⊥) }
     ensures no { result ≡ false → (Either (slice_index_or lines.now a []) (slice_index_or lines.now b []) j → ⊥) ⊎ Free lines.now a b shown j }
 {
-    if !either(&lines[a], &lines[b], j) {
+    if !names(&lines[a], j) && !names(&lines[b], j) {
         return false;
     }
     wanted(lines, a, b, shown, j)
 }
 
 // The line that two lines become, if it has at most four slots besides its number's.
-pub(crate) fn gather(
-    lines: &[[usize; 5]],
-    a: usize,
-    b: usize,
-    n: usize,
-    shown: usize,
-    k: usize,
-) -> Option<[usize; 5]>
-    requires { (a < length lines.now) × ((b < length lines.now) × (AllBelow n lines.now)) }
-    ensures { IfSome result (λ new. Gathered lines.now a b shown k new) }
+pub(crate) fn gather(lines: &[SlotLine], a: usize, b: usize, setting: &Setting) -> Option<SlotLine>
+    requires { (a < length lines.now) × ((b < length lines.now) × (AllBelow setting.now.n lines.now)) }
+    ensures { IfSome result (λ new. Gathered lines.now a b setting.now.shown setting.now.k new) }
 {
     let mut new = [lines[a][0]; 5];
+    // How many columns the new line has.
     let mut w = 1;
-    for j in k..n {
-        if kept(lines, a, b, shown, j) {
+    for j in setting.k..setting.n {
+        if kept(lines, a, b, setting.shown, j) {
             if w >= 5 {
                 return None;
             }
@@ -83,31 +54,27 @@ pub(crate) fn gather(
     Some(new)
 }
 
-// Whether the line i is one of the two, or its number is known and is not one of theirs.
-fn line_apart(lines: &[[usize; 5]], i: usize, a: usize, b: usize, k: usize, env: &[u64; 24]) -> bool
-    requires inside { (i < length lines.now) × ((a < length lines.now) × ((b < length lines.now) × (AllBelow 24 lines.now))) }
-    ensures yes { result ≡ true → i ≢ a → i ≢ b → (slot (slice_index_or lines.now i []) 0 < k)
-        × (number env.now (slice_index_or lines.now i []) ≢ number env.now (slice_index_or lines.now a []))
-        × (number env.now (slice_index_or lines.now i []) ≢ number env.now (slice_index_or lines.now b [])) }
+// Whether a line's number is known and is not one of two lines'.
+fn line_apart(line: &SlotLine, first: &SlotLine, second: &SlotLine, setting: &Setting) -> bool
+    requires { (SlotsBelow 24 line.now) × ((SlotsBelow 24 first.now) × (SlotsBelow 24 second.now)) }
+    ensures yes { result ≡ true → (slot line.now 0 < setting.now.k)
+        × (number setting.now.env line.now ≢ number setting.now.env first.now)
+        × (number setting.now.env line.now ≢ number setting.now.env second.now) }
 {
-    if i == a || i == b {
-        return true;
-    }
-    let known = lines[i][0] < k;
-    let own = env[lines[i][0]];
-    known && own != env[lines[a][0]] && own != env[lines[b][0]]
+    let own = setting.env[line[0]];
+    line[0] < setting.k && own != setting.env[first[0]] && own != setting.env[second[0]]
 }
 
 // Whether the two lines' numbers are known and no other line has one of them.
-pub(crate) fn apart(lines: &[[usize; 5]], a: usize, b: usize, k: usize, env: &[u64; 24]) -> bool
+pub(crate) fn apart(lines: &[SlotLine], a: usize, b: usize, setting: &Setting) -> bool
     requires { (a < length lines.now) × ((b < length lines.now) × (AllBelow 24 lines.now)) }
-    ensures { result ≡ true → Apart lines.now a b k env.now }
+    ensures { result ≡ true → Apart lines.now a b setting.now.k setting.now.env }
 {
-    if lines[a][0] >= k || lines[b][0] >= k {
+    if lines[a][0] >= setting.k || lines[b][0] >= setting.k {
         return false;
     }
-    for i in 0..lines.len() {
-        if !line_apart(lines, i, a, b, k, env) {
+    for (i, line) in lines.iter().enumerate() {
+        if i != a && i != b && !line_apart(line, &lines[a], &lines[b], setting) {
             return false;
         }
     }
@@ -115,7 +82,7 @@ pub(crate) fn apart(lines: &[[usize; 5]], a: usize, b: usize, k: usize, env: &[u
 }
 
 // Puts the new line in the place of the line a, and leaves the line b out.
-pub(crate) fn replace(lines: &mut Vec<[usize; 5]>, a: usize, b: usize, new: &[usize; 5])
+pub(crate) fn replace(lines: &mut Vec<SlotLine>, a: usize, b: usize, new: &SlotLine)
     requires { (a < b) × (b < vec_len lines.old) }
     ensures { Replaced lines.old.items a b new.now lines.new.items }
 {

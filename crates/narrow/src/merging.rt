@@ -8,7 +8,7 @@ ghost use Rattle.narrow.specs.Joining.{Joined, Matched, Merged, Others, Paired, 
 
 use super::pairs::pair;
 use super::rows::{in_order, keyed};
-use join::{lower, row_under};
+use join::{Row, Setting, SlotLine, lower, row_under};
 use std::alloc::{AllocError, Global};
 
 // How many rows a step may make; with more, it is given up.
@@ -20,94 +20,13 @@ fn too_many(made: usize, through: usize) -> bool {
 }
 
 // The row with another number in front.
-fn numbered(row: &[u64; 5], number: u64) -> [u64; 5]
+fn numbered(row: &Row, number: u64) -> Row
     ensures { (c : ℕ) → c < 5 → slice_index result c ≡ with_front number (cells row.now) c }
 {
     [number, row[1], row[2], row[3], row[4]]
 }
 
-// Puts the new line's row behind the others, if the lines stand together on the row and the row of the key at p.
-fn push_pair(
-    out: &mut Vec<[u64; 5]>,
-    first: &[usize; 5],
-    second: &[usize; 5],
-    new: &[usize; 5],
-    row: &[u64; 5],
-    keys: &[[u64; 5]],
-    p: usize,
-    k: usize,
-    env: &[u64; 24],
-) -> Result<(), AllocError>
-    requires slots { (SlotsBelow 24 first.now) × ((SlotsBelow 24 second.now) × ((SlotsBelow 24 new.now) × ((WithinBoth first.now second.now new.now) × (p < length keys.now)))) }
-    ensures { is_ok result ≡ true → Matched first.now second.now new.now k env.now (cells row.now) keys.now (λ q. q ≡ p) out.old.items out.new.items }
-{
-    let other = numbered(&keys[p], env[second[0]]);
-    if let Some(vals) = pair(first, second, row, &other, k, env) {
-        out.push(row_under(new, &vals))?;
-    }
-    Ok(())
-}
-
-// Puts the new line's rows behind the others for a row of the first line, by the keys with its number.
-fn push_pairs(
-    out: &mut Vec<[u64; 5]>,
-    first: &[usize; 5],
-    second: &[usize; 5],
-    new: &[usize; 5],
-    row: &[u64; 5],
-    keys: &[[u64; 5]],
-    column: usize,
-    k: usize,
-    env: &[u64; 24],
-) -> Result<(), AllocError>
-    requires slots { (SlotsBelow 24 first.now) × ((SlotsBelow 24 second.now) × ((SlotsBelow 24 new.now) × (WithinBoth first.now second.now new.now))) }
-    requires keys { (Sorted keys.now) × (column < 5) }
-    ensures { is_ok result ≡ true → Matched first.now second.now new.now k env.now (cells row.now) keys.now
-        (λ q. row_at keys.now q 0 ≡ slice_index row.now column) out.old.items out.new.items }
-{
-    let x = row[column];
-    let start = lower(keys, &[x, 0, 0, 0, 0]);
-    for p in start..keys.len() {
-        if keys[p][0] > x {
-            return Ok(());
-        }
-        push_pair(out, first, second, new, row, keys, p, k, env)?;
-    }
-    Ok(())
-}
-
-// The new line's rows, by the rows and the keys; None if they are too many.
-fn pair_all(
-    heap: Global,
-    first: &[usize; 5],
-    second: &[usize; 5],
-    new: &[usize; 5],
-    rows: &[[u64; 5]],
-    keys: &[[u64; 5]],
-    column: usize,
-    k: usize,
-    env: &[u64; 24],
-) -> Result<Option<Vec<[u64; 5]>>, AllocError>
-    requires slots { (SlotsBelow 24 first.now) × ((SlotsBelow 24 second.now) × ((SlotsBelow 24 new.now) × (WithinBoth first.now second.now new.now))) }
-    requires keys { (Sorted keys.now) × (column < 5) }
-    ensures { IfOk result (λ o. IfSome o (λ v. Paired first.now second.now new.now k env.now rows.now (length rows.now) keys.now column v.items)) }
-{
-    let mut out = Vec::new(heap);
-    let mut through = 0usize;
-    let number = env[first[0]];
-    for row in rows {
-        if row[0] == number {
-            push_pairs(&mut out, first, second, new, row, keys, column, k, env)?;
-            through = through.saturating_add(1);
-        }
-        if too_many(out.len(), through) {
-            return Ok(None);
-        }
-    }
-    Ok(Some(out))
-}
-
-// Whether a number is neither of two.
+// Whether a number is neither of two. Kept: its clauses tell more than the parts of a failed `&&`.
 fn neither(number: u64, x: u64, y: u64) -> bool
     ensures yes { result ≡ true → (number ≢ x) × (number ≢ y) }
     ensures no { result ≡ false → (number ≡ x) ⊎ (number ≡ y) }
@@ -116,7 +35,7 @@ fn neither(number: u64, x: u64, y: u64) -> bool
 }
 
 // Puts the rows with other numbers in front behind the others.
-fn push_others(out: &mut Vec<[u64; 5]>, rows: &[[u64; 5]], x: u64, y: u64) -> Result<(), AllocError>
+fn push_others(out: &mut Vec<Row>, rows: &[Row], x: u64, y: u64) -> Result<(), AllocError>
     ensures { is_ok result ≡ true → Others rows.now x y out.old.items out.new.items }
 {
     for row in rows {
@@ -128,67 +47,120 @@ fn push_others(out: &mut Vec<[u64; 5]>, rows: &[[u64; 5]], x: u64, y: u64) -> Re
 }
 
 // The column of a line that names the slot.
-fn column_of(line: &[usize; 5], s: usize) -> usize
+fn column_of(line: &SlotLine, s: usize) -> usize
     requires { Names line.now s }
     ensures { (result < 5) × (slot line.now result ≡ s) }
 {
-    for c in 0..5 {
-        if line[c] == s {
-            return c;
+    line.iter().position(|t| *t == s).unwrap()
+}
+
+// Two lines and the new one that they become, which has no other slots.
+#[derive(Clone, Copy)]
+pub(crate) struct TwoLines<'a> {
+    pub(crate) first: &'a SlotLine,
+    pub(crate) second: &'a SlotLine,
+    pub(crate) new: &'a SlotLine,
+    pub(crate) setting: &'a Setting,
+    ghost low_first: { SlotsBelow 24 first.now },
+    ghost low_second: { SlotsBelow 24 second.now },
+    ghost low_new: { SlotsBelow 24 new.now },
+    ghost within: { ∥ WithinBoth first.now second.now new.now ∥₁ },
+}
+
+impl TwoLines<'_> {
+    // Puts the new line's row behind the others, if the lines stand together on the row and the row of the key at p.
+    fn push_pair(
+        &self,
+        out: &mut Vec<Row>,
+        row: &Row,
+        keys: &[Row],
+        p: usize,
+    ) -> Result<(), AllocError>
+        requires { p < length keys.now }
+        ensures { is_ok result ≡ true → Matched self.now.first.now self.now.second.now self.now.new.now self.now.setting.now.k self.now.setting.now.env (cells row.now) keys.now (λ q. q ≡ p) out.old.items out.new.items }
+    {
+        let other = numbered(&keys[p], self.setting.env[self.second[0]]);
+        if let Some(vals) = pair(self.first, self.second, row, &other, self.setting) {
+            out.push(row_under(self.new, &vals))?;
         }
+        Ok(())
     }
-    0
-}
 
-// The new line's rows, both lines' rows joined by a slot that they name; None if they are too many.
-fn joined(
-    heap: Global,
-    rows: &[[u64; 5]],
-    first: &[usize; 5],
-    second: &[usize; 5],
-    new: &[usize; 5],
-    s: usize,
-    k: usize,
-    env: &[u64; 24],
-) -> Result<Option<Vec<[u64; 5]>>, AllocError>
-    requires slots { (SlotsBelow 24 first.now) × ((SlotsBelow 24 second.now) × ((SlotsBelow 24 new.now) × (WithinBoth first.now second.now new.now))) }
-    requires named { (Names first.now s) × ((Names second.now s) × ((slot first.now 0 < k) × (slot second.now 0 < k))) }
-    ensures { IfOk result (λ o. IfSome o (λ v. Joined rows.now first.now second.now new.now k env.now v.items)) }
-{
-    let keys = keyed(heap, rows, env[second[0]], column_of(second, s))?;
-    pair_all(
-        heap,
-        first,
-        second,
-        new,
-        rows,
-        &keys,
-        column_of(first, s),
-        k,
-        env,
-    )
-}
+    // Puts the new line's rows behind the others for a row of the first line, by the keys with its number.
+    fn push_pairs(
+        &self,
+        out: &mut Vec<Row>,
+        row: &Row,
+        keys: &[Row],
+        column: usize,
+    ) -> Result<(), AllocError>
+        requires { (Sorted keys.now) × (column < 5) }
+        ensures { is_ok result ≡ true → Matched self.now.first.now self.now.second.now self.now.new.now self.now.setting.now.k self.now.setting.now.env (cells row.now) keys.now
+            (λ q. row_at keys.now q 0 ≡ slice_index row.now column) out.old.items out.new.items }
+    {
+        let x = row[column];
+        let start = lower(keys, &[x, 0, 0, 0, 0]);
+        // The index is needed: what is said of a pair names the key's place.
+        for p in start..keys.len() {
+            if keys[p][0] > x {
+                return Ok(());
+            }
+            self.push_pair(out, row, keys, p)?;
+        }
+        Ok(())
+    }
 
-// The rows after two lines are made into one, in order; None if they are too many.
-pub(crate) fn merge(
-    heap: Global,
-    rows: &[[u64; 5]],
-    first: &[usize; 5],
-    second: &[usize; 5],
-    new: &[usize; 5],
-    s: usize,
-    k: usize,
-    env: &[u64; 24],
-) -> Result<Option<Vec<[u64; 5]>>, AllocError>
-    requires slots { (SlotsBelow 24 first.now) × ((SlotsBelow 24 second.now) × ((SlotsBelow 24 new.now) × (WithinBoth first.now second.now new.now))) }
-    requires named { (Names first.now s) × ((Names second.now s) × ((slot first.now 0 < k) × (slot second.now 0 < k))) }
-    ensures { IfOk result (λ o. IfSome o (λ v. Sorted v.items × Merged rows.now first.now second.now new.now k env.now v.items)) }
-{
-    let made = joined(heap, rows, first, second, new, s, k, env)?;
-    let Some(mut out) = made else {
-        return Ok(None);
-    };
-    push_others(&mut out, rows, env[first[0]], env[second[0]])?;
-    let sorted = in_order(heap, out)?;
-    Ok(Some(sorted))
+    // The new line's rows, by the rows and the keys; None if they are too many.
+    fn pair_all(
+        &self,
+        heap: Global,
+        rows: &[Row],
+        keys: &[Row],
+        column: usize,
+    ) -> Result<Option<Vec<Row>>, AllocError>
+        requires { (Sorted keys.now) × (column < 5) }
+        ensures { IfOk result (λ o. IfSome o (λ v. Paired self.now.first.now self.now.second.now self.now.new.now self.now.setting.now.k self.now.setting.now.env rows.now (length rows.now) keys.now column v.items)) }
+    {
+        let mut out = Vec::new(heap);
+        let mut through = 0usize;
+        let number = self.setting.env[self.first[0]];
+        for row in rows {
+            if row[0] == number {
+                self.push_pairs(&mut out, row, keys, column)?;
+                through = through.saturating_add(1);
+            }
+            if too_many(out.len(), through) {
+                return Ok(None);
+            }
+        }
+        Ok(Some(out))
+    }
+
+    // The new line's rows, both lines' rows joined by a slot that they name; None if they are too many.
+    fn joined(&self, heap: Global, rows: &[Row], s: usize) -> Result<Option<Vec<Row>>, AllocError>
+        requires { (Names self.now.first.now s) × ((Names self.now.second.now s) × ((slot self.now.first.now 0 < self.now.setting.now.k) × (slot self.now.second.now 0 < self.now.setting.now.k))) }
+        ensures { IfOk result (λ o. IfSome o (λ v. Joined rows.now self.now.first.now self.now.second.now self.now.new.now self.now.setting.now.k self.now.setting.now.env v.items)) }
+    {
+        let number = self.setting.env[self.second[0]];
+        let keys = keyed(heap, rows, number, column_of(self.second, s))?;
+        self.pair_all(heap, rows, &keys, column_of(self.first, s))
+    }
+
+    // The rows after two lines are made into one, in order; None if they are too many.
+    pub(crate) fn merge(
+        &self,
+        heap: Global,
+        rows: &[Row],
+        s: usize,
+    ) -> Result<Option<Vec<Row>>, AllocError>
+        requires { (Names self.now.first.now s) × ((Names self.now.second.now s) × ((slot self.now.first.now 0 < self.now.setting.now.k) × (slot self.now.second.now 0 < self.now.setting.now.k))) }
+        ensures { IfOk result (λ o. IfSome o (λ v. Sorted v.items × Merged rows.now self.now.first.now self.now.second.now self.now.new.now self.now.setting.now.k self.now.setting.now.env v.items)) }
+    {
+        let Some(mut out) = self.joined(heap, rows, s)? else {
+            return Ok(None);
+        };
+        let env = &self.setting.env;
+        push_others(&mut out, rows, env[self.first[0]], env[self.second[0]])?;
+        Ok(Some(in_order(out)))
+    }
 }

@@ -6,22 +6,21 @@ ghost use Rattle.narrow.specs.Joining.{Merged, Shortened, WithinBoth};
 
 use super::pairs::pair;
 use super::rows::in_order;
-use join::row_under;
+use join::{Row, Setting, SlotLine, row_under};
 use std::alloc::{AllocError, Global};
 
 // Puts the new line's row behind the others, if the line can be the row.
 fn push_shortened(
-    out: &mut Vec<[u64; 5]>,
-    line: &[usize; 5],
-    new: &[usize; 5],
-    row: &[u64; 5],
-    k: usize,
-    env: &[u64; 24],
+    out: &mut Vec<Row>,
+    line: &SlotLine,
+    new: &SlotLine,
+    row: &Row,
+    setting: &Setting,
 ) -> Result<(), AllocError>
     requires { (SlotsBelow 24 line.now) × ((SlotsBelow 24 new.now) × (WithinBoth line.now line.now new.now)) }
-    ensures { is_ok result ≡ true → Shortened line.now new.now k env.now (cells row.now) out.old.items out.new.items }
+    ensures { is_ok result ≡ true → Shortened line.now new.now setting.now.k setting.now.env (cells row.now) out.old.items out.new.items }
 {
-    if let Some(vals) = pair(line, line, row, row, k, env) {
+    if let Some(vals) = pair(line, line, row, row, setting) {
         out.push(row_under(new, &vals))?;
     }
     Ok(())
@@ -30,23 +29,22 @@ fn push_shortened(
 // The rows after a line is made into one with fewer slots, in order.
 pub(crate) fn project(
     heap: Global,
-    rows: &[[u64; 5]],
-    line: &[usize; 5],
-    new: &[usize; 5],
-    k: usize,
-    env: &[u64; 24],
-) -> Result<Vec<[u64; 5]>, AllocError>
-    requires slots { (SlotsBelow 24 line.now) × ((SlotsBelow 24 new.now) × ((WithinBoth line.now line.now new.now) × (slot line.now 0 < k))) }
-    ensures { IfOk result (λ v. Sorted v.items × Merged rows.now line.now line.now new.now k env.now v.items) }
+    rows: &[Row],
+    line: &SlotLine,
+    new: &SlotLine,
+    setting: &Setting,
+) -> Result<Vec<Row>, AllocError>
+    requires slots { (SlotsBelow 24 line.now) × ((SlotsBelow 24 new.now) × ((WithinBoth line.now line.now new.now) × (slot line.now 0 < setting.now.k))) }
+    ensures { IfOk result (λ v. Sorted v.items × Merged rows.now line.now line.now new.now setting.now.k setting.now.env v.items) }
 {
     let mut out = Vec::new(heap);
-    let number = env[line[0]];
+    let number = setting.env[line[0]];
     for row in rows {
         if row[0] == number {
-            push_shortened(&mut out, line, new, row, k, env)?;
+            push_shortened(&mut out, line, new, row, setting)?;
         } else {
             out.push(*row)?;
         }
     }
-    in_order(heap, out)
+    Ok(in_order(out))
 }

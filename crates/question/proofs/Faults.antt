@@ -1,37 +1,12 @@
 -- What the definitions of a fault say turn by turn: the next line, the one that stops, and the end.
-use Rattle.std.proofs.Common.{◌≡◌, ℕ, zero, suc, ◌+◌, ◌-◌, ◌*◌, ◌<◌, ◌≤◌, Bool, true, false, cond, ◌&&◌, eqb, ltb, List, get_or, drop, Some, None, Option, sym, refl, ◌∙◌, arith}
-use Rattle.std.proofs.lemmas.Bool.Decides.{nat_tests}
-use Rattle.std.proofs.lemmas.List.{get_or-drop, drop-drop}
+use Rattle.std.proofs.Common.{◌≡◌, ℕ, zero, suc, ◌+◌, ◌-◌, ◌*◌, ◌<◌, ◌≤◌, Bool, true, false, cond, ◌&&◌, ltb, List, get_or, drop, Some, None, Option, sym, refl, ◌∙◌, arith}
+use Rattle.std.proofs.lemmas.List.{drop-drop}
 use Rattle.std.proofs.lemmas.Bool.{and_parts, and_from}
 use Rattle.question.specs.Sound.{sound, vars, line_vars, all_in}
 use Rattle.question.specs.Layout.{terms_in, lines_in, lines_fit, line_part, question_in}
 use Rattle.question.proofs.Fitting.{line_fits-take}
 use Rattle.question.proofs.Decoding.{length-lines_in}
-use Rattle.question.specs.Check.{agrees, line_good, least_fault}
-
-agrees-more : (n i t w : ℕ) (xs : List ℕ) → i < n
-    → agrees (n - i) t w (drop (10 * i) xs) ≡ (cond (eqb (get_or xs (10 * i) 0) t) (eqb (get_or xs (10 * i + 1) 0) w) true && agrees (n - (i + 1)) t w (drop (10 * (i + 1)) xs))
-unfolding agrees
-agrees-more n i t w xs h =
-    let e : n - i ≡ suc (n - (i + 1)) = omega arith in
-    let z : 10 * i + 0 ≡ 10 * i = omega arith in
-    let d : 10 * i + 10 ≡ 10 * (i + 1) = omega arith in
-    rw (e, get_or-drop (10 * i) xs 0 0, z, get_or-drop (10 * i) xs 1 0, drop-drop 10 (10 * i) xs, d)
-
-pub agrees-next : (n i t w : ℕ) (xs : List ℕ) → i < n → (get_or xs (10 * i) 0 ≡ t → get_or xs (10 * i + 1) 0 ≡ w)
-    → agrees (n - i) t w (drop (10 * i) xs) ≡ agrees (n - (i + 1)) t w (drop (10 * (i + 1)) xs)
-agrees-next n i t w xs h f =
-    let e : cond (eqb (get_or xs (10 * i) 0) t) (eqb (get_or xs (10 * i + 1) 0) w) true ≡ true = grind (arith, nat_tests) in
-    simp e at (agrees-more n i t w xs h)
-
-pub agrees_stop : (n i t w : ℕ) (xs : List ℕ) → i < n → get_or xs (10 * i) 0 ≡ t → (get_or xs (10 * i + 1) 0 ≡ w → ⊥) → agrees (n - i) t w (drop (10 * i) xs) ≡ false
-agrees_stop n i t w xs h a b =
-    let e : cond (eqb (get_or xs (10 * i) 0) t) (eqb (get_or xs (10 * i + 1) 0) w) true ≡ false = grind (arith, nat_tests) in
-    simp e at (agrees-more n i t w xs h)
-
-pub agrees_end : (n i t w : ℕ) (xs : List ℕ) → n ≤ i → agrees (n - i) t w xs ≡ true
-unfolding agrees
-agrees_end n i t w xs h = let e : n - i ≡ 0 = omega arith in rw e
+use Rattle.question.specs.Check.{line_good, least_fault}
 
 fault-more : (n i : ℕ) (xs : List ℕ) → i < n → least_fault xs (n - i) i ≡ cond (line_good xs i) (least_fault xs (n - (i + 1)) (i + 1)) (Some i)
 unfolding least_fault

@@ -1,5 +1,5 @@
 -- What the tests of the layout say of a part of the numbers: the next term or line, and the end.
-use Rattle.std.proofs.Common.{◌≡◌, ℕ, zero, suc, ◌+◌, ◌-◌, ◌*◌, ◌<◌, ◌≤◌, true, false, ◌&&◌, leb, List, get_or, take, drop, refl, ◌∙◌, inl, inr, arith}
+use Rattle.std.proofs.Common.{◌≡◌, ℕ, zero, suc, ◌+◌, ◌-◌, ◌*◌, ◌<◌, ◌≤◌, true, ◌&&◌, leb, List, get_or, take, drop, refl, ◌∙◌, inl, inr, arith}
 use Rattle.std.proofs.lemmas.Bool.Decides.{leb_tells, nat_tests}
 use Rattle.std.proofs.lemmas.Bool.{and_parts, and_from}
 use Rattle.std.proofs.lemmas.List.{get_or-take, get_or-drop, drop-drop}
@@ -15,28 +15,6 @@ terms_fit-take limit (suc n) m xs h =
     let b : 1 < m = omega arith in
     let k : 2 * n ≤ m - 2 = omega arith in
     rw (get_or-take m xs 0 0 a, get_or-take m xs 1 0 b, ← between_is xs 2 m, terms_fit-take limit n (m - 2) (drop 2 xs) k)
-
--- the next term of n
-terms_fit-more : (limit n i : ℕ) (xs : List ℕ) → i < n
-    → terms_fit limit (n - i) (drop (2 * i) xs) ≡ (term_fits limit (get_or xs (2 * i) 0) (get_or xs (2 * i + 1) 0) && terms_fit limit (n - (i + 1)) (drop (2 * (i + 1)) xs))
-unfolding terms_fit
-terms_fit-more limit n i xs h =
-    let e : n - i ≡ suc (n - (i + 1)) = omega arith in
-    let z : 2 * i + 0 ≡ 2 * i = omega arith in
-    let d : 2 * i + 2 ≡ 2 * (i + 1) = omega arith in
-    rw (e, get_or-drop (2 * i) xs 0 0, z, get_or-drop (2 * i) xs 1 0, drop-drop 2 (2 * i) xs, d)
-
--- a term that fits, one that does not, and the end
-pub terms_fit-next : (limit n i : ℕ) (xs : List ℕ) → i < n → term_fits limit (get_or xs (2 * i) 0) (get_or xs (2 * i + 1) 0) ≡ true
-    → terms_fit limit (n - i) (drop (2 * i) xs) ≡ terms_fit limit (n - (i + 1)) (drop (2 * (i + 1)) xs)
-terms_fit-next limit n i xs h e = simp e at (terms_fit-more limit n i xs h)
-
-pub terms_fit_stop : (limit n i : ℕ) (xs : List ℕ) → i < n → term_fits limit (get_or xs (2 * i) 0) (get_or xs (2 * i + 1) 0) ≡ false → terms_fit limit (n - i) (drop (2 * i) xs) ≡ false
-terms_fit_stop limit n i xs h e = simp e at (terms_fit-more limit n i xs h)
-
-pub terms_fit_end : (limit n i : ℕ) (xs : List ℕ) → n ≤ i → terms_fit limit (n - i) xs ≡ true
-unfolding terms_fit
-terms_fit_end limit n i xs h = let e : n - i ≡ 0 = omega arith in rw e
 
 -- of a line only ten numbers count
 pub few_terms_take : (limit n m : ℕ) (xs : List ℕ) → 8 ≤ m → (leb n 4 && terms_fit limit n (take m xs)) ≡ (leb n 4 && terms_fit limit n xs)
@@ -73,14 +51,14 @@ unfolding line_fits
 line_fits-cells limit xs e = grind (arith, nat_tests)
 
 -- with more variables, what fits still does
-term-fits_wider : (a b kind n : ℕ) → a ≤ b → term_fits a kind n ≡ true → term_fits b kind n ≡ true
-term-fits_wider a b kind n h e = grind (arith, nat_tests)
+pub term_fits_wider : (a b kind n : ℕ) → a ≤ b → term_fits a kind n ≡ true → term_fits b kind n ≡ true
+term_fits_wider a b kind n h e = grind (arith, nat_tests)
 
 pub terms_fit_wider : (a b n : ℕ) (xs : List ℕ) → a ≤ b → terms_fit a n xs ≡ true → terms_fit b n xs ≡ true
 unfolding terms_fit
 terms_fit_wider a b zero xs h e = refl
 terms_fit_wider a b (suc n) xs h e =
-    and_from _ _ (term-fits_wider a b (get_or xs 0 0) (get_or xs 1 0) h (and_parts _ _ e).0) (terms_fit_wider a b n (drop 2 xs) h (and_parts _ _ e).1)
+    and_from _ _ (term_fits_wider a b (get_or xs 0 0) (get_or xs 1 0) h (and_parts _ _ e).0) (terms_fit_wider a b n (drop 2 xs) h (and_parts _ _ e).1)
 
 pub line_fits_wider : (a b : ℕ) (xs : List ℕ) → a ≤ b → line_fits a xs ≡ true → line_fits b xs ≡ true
 unfolding line_fits

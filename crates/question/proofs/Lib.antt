@@ -12,3 +12,6 @@ pub mod Writing
 pub mod Back
 pub mod Places
 pub mod Adding
+pub mod Chunks
+pub mod Within
+pub mod Coming

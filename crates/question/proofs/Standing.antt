@@ -1,7 +1,8 @@
 -- Whether a variable stands in terms and lines, turn by turn.
-use Rattle.std.proofs.Common.{◌≡◌, ℕ, ◌+◌, ◌≤◌, Bool, true, false, cond, eqb, List, [], ◌∷◌, ◌++◌, length, drop, refl, ap, ◌∙◌, arith, eq-eqb}
+use Rattle.std.proofs.Common.{◌≡◌, ℕ, ◌+◌, ◌≤◌, Bool, true, false, cond, ◌||◌, eqb, List, [], ◌∷◌, ◌++◌, length, drop, refl, ap, ◌∙◌, arith, eq-eqb}
 use Rattle.std.proofs.lemmas.Bool.Decides.{nat_tests}
 use Rattle.std.proofs.lemmas.List.{drop_all}
+use Rattle.std.specs.List.{list_any}
 use Rattle.question.specs.declared.terms.Term.{Term}
 use Rattle.question.specs.declared.terms.Term.TheVariants.{Number, Variable}
 use Rattle.question.specs.Question.{Line}
@@ -49,19 +50,39 @@ pub has_no_line : (x i : ℕ) (ls : List Line) → length ls ≤ i → has (line
 unfolding line_vars has
 has_no_line x i ls h = ap (λ (ms : List Line). has (line_vars ms) x) (drop_all i ls h)
 
--- the row: a number, a variable that stands, one that does not, and the end
-pub all_in_number : (i : ℕ) (ts : List Term) (ms : List ℕ) (n : ℕ) → drop i ts ≡ Number n ∷ drop (i + 1) ts → all_in (vars (drop i ts)) ms ≡ all_in (vars (drop (i + 1) ts)) ms
+-- terms that are still to come: a number, a variable that is in the list, one that is not, and the end
+pub all_in-number : (ts : List Term) (ms : List ℕ) (n : ℕ) (us : List Term) → ts ≡ Number n ∷ us → all_in (vars ts) ms ≡ all_in (vars us) ms
 unfolding vars
-all_in_number i ts ms n e = ap (λ (us : List Term). all_in (vars us) ms) e
+all_in-number ts ms n us e = ap (λ (vs : List Term). all_in (vars vs) ms) e
 
-pub all_in_next : (i : ℕ) (ts : List Term) (ms : List ℕ) (x : ℕ) → drop i ts ≡ Variable x ∷ drop (i + 1) ts → has ms x ≡ true → all_in (vars (drop i ts)) ms ≡ all_in (vars (drop (i + 1) ts)) ms
+pub all_in-rest : (ts : List Term) (ms : List ℕ) (x : ℕ) (us : List Term) → ts ≡ Variable x ∷ us → has ms x ≡ true → all_in (vars ts) ms ≡ all_in (vars us) ms
 unfolding vars all_in
-all_in_next i ts ms x e f = ap (λ (us : List Term). all_in (vars us) ms) e ∙ rw f
+all_in-rest ts ms x us e f = ap (λ (vs : List Term). all_in (vars vs) ms) e ∙ rw f
 
-pub all_in_stop : (i : ℕ) (ts : List Term) (ms : List ℕ) (x : ℕ) → drop i ts ≡ Variable x ∷ drop (i + 1) ts → has ms x ≡ false → all_in (vars (drop i ts)) ms ≡ false
+pub all_in-stop : (ts : List Term) (ms : List ℕ) (x : ℕ) (us : List Term) → ts ≡ Variable x ∷ us → has ms x ≡ false → all_in (vars ts) ms ≡ false
 unfolding vars all_in
-all_in_stop i ts ms x e f = ap (λ (us : List Term). all_in (vars us) ms) e ∙ rw f
+all_in-stop ts ms x us e f = ap (λ (vs : List Term). all_in (vars vs) ms) e ∙ rw f
 
-pub all_in_end : (i : ℕ) (ts : List Term) (ms : List ℕ) → length ts ≤ i → all_in (vars (drop i ts)) ms ≡ true
+pub all_in-none : (ts : List Term) (ms : List ℕ) → ts ≡ [] → all_in (vars ts) ms ≡ true
 unfolding vars all_in
-all_in_end i ts ms h = ap (λ (us : List Term). all_in (vars us) ms) (drop_all i ts h)
+all_in-none ts ms e = ap (λ (vs : List Term). all_in (vars vs) ms) e
+
+-- a variable stands in terms if one of them, alone, has it
+pub has-any : (x : ℕ) (ts : List Term) → list_any (λ t. has (vars (t ∷ [])) x) ts ≡ has (vars ts) x
+unfolding vars has
+has-any x [] = refl
+has-any x (Number n ∷ ts) = has-any x ts
+has-any x (Variable y ∷ ts) = elim (eqb y x) as (λ b. (cond b true false || list_any (λ t. has (vars (t ∷ [])) x) ts) ≡ cond b true (has (vars ts) x)) [ true ↦ refl | false ↦ has-any x ts ]
+
+-- lines that are still to come: the first has the variable, it has not, and there is none
+pub has-line-first : (x : ℕ) (ls : List Line) (l : Line) (ms : List Line) → ls ≡ l ∷ ms → has (vars l.cells) x ≡ true → has (line_vars ls) x ≡ true
+unfolding line_vars
+has-line-first x ls l ms e f = ap (λ (ns : List Line). has (line_vars ns) x) e ∙ has-append (vars l.cells) (line_vars ms) x ∙ rw f
+
+pub has-line-rest : (x : ℕ) (ls : List Line) (l : Line) (ms : List Line) → ls ≡ l ∷ ms → has (vars l.cells) x ≡ false → has (line_vars ls) x ≡ has (line_vars ms) x
+unfolding line_vars
+has-line-rest x ls l ms e f = ap (λ (ns : List Line). has (line_vars ns) x) e ∙ has-append (vars l.cells) (line_vars ms) x ∙ rw f
+
+pub has-none : (x : ℕ) (ls : List Line) → ls ≡ [] → has (line_vars ls) x ≡ false
+unfolding line_vars has
+has-none x ls e = ap (λ (ns : List Line). has (line_vars ns) x) e

@@ -14,7 +14,7 @@ use Rattle.question.proofs.Fitting.{line_fits-cells}
 use Rattle.question.proofs.Decoding.{length-terms_in}
 
 -- a term that fits is written by its own numbers
-term_out_in : (limit a b : ℕ) (ts : List Term) → term_fits limit a b ≡ true → terms_out (term_in a b ∷ ts) ≡ a ∷ b ∷ terms_out ts
+pub term_out_in : (limit a b : ℕ) (ts : List Term) → term_fits limit a b ≡ true → terms_out (term_in a b ∷ ts) ≡ a ∷ b ∷ terms_out ts
 unfolding terms_out
 term_out_in limit zero b ts e = refl
 term_out_in limit (suc zero) b ts e = refl

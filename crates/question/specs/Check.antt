@@ -8,10 +8,14 @@ use Rattle.question.specs.Question.{Line, Question}
 use Rattle.question.specs.Sound.{sound, Allowed}
 use Rattle.question.specs.Layout.{terms_fit, line_fits, line_part, question_in, terms_out}
 
--- none of the first n lines has the table with another width
+-- the line has not the table with another width
+abbrev pub line_agrees : (table width : ℕ) → List ℕ → Bool
+line_agrees t w xs = cond (slice_index xs 0 == t) (slice_index xs 1 == w) true
+
+-- none of the first n lines has
 unfoldable pub agrees : (n table width : ℕ) → List ℕ → Bool
 agrees zero t w xs = true
-agrees (suc n) t w xs = cond (slice_index xs 0 == t) (slice_index xs 1 == w) true && agrees n t w (drop 10 xs)
+agrees (suc n) t w xs = line_agrees t w xs && agrees n t w (drop 10 xs)
 
 -- the i-th line is one, and agrees in its width with the lines before it
 abbrev pub line_good : List ℕ → ℕ → Bool

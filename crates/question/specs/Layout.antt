@@ -1,5 +1,5 @@
 -- How terms, lines and questions lie in lent numbers: a term is two numbers, a line ten, a question fifty. Assumes nothing: these are definitions.
-use Rattle.std.specs.Prelude.{ℕ, zero, suc, ◌-◌, ◌*◌, Bool, true, cond, ◌&&◌, List, [], ◌∷◌, ◌++◌, length, take, drop, replicate, ◌==◌, nat_le, nat_lt, slice_index}
+use Rattle.std.specs.Prelude.{ℕ, zero, suc, ◌<◌, ◌+◌, ◌-◌, ◌*◌, Bool, true, cond, ◌&&◌, List, [], ◌∷◌, ◌++◌, length, take, drop, replicate, ◌==◌, nat_le, nat_lt, slice_index}
 use Rattle.question.specs.declared.terms.Term.{Term}
 use Rattle.question.specs.declared.terms.Term.TheVariants.{Number, Variable}
 use Rattle.question.specs.Question.{Line, Question, Value}
@@ -22,12 +22,36 @@ unfoldable pub terms_fit : (limit n : ℕ) → List ℕ → Bool
 terms_fit limit zero xs = true
 terms_fit limit (suc n) xs = term_fits limit (slice_index xs 0) (slice_index xs 1) && terms_fit limit n (drop 2 xs)
 
+-- the same of two numbers that lie in a list of their own
+abbrev pub pair_term : List ℕ → Term
+pair_term p = term_in (slice_index p 0) (slice_index p 1)
+
+abbrev pub pair_fits : ℕ → List ℕ → Bool
+pair_fits limit p = term_fits limit (slice_index p 0) (slice_index p 1)
+
+abbrev pub two_fit : (limit : ℕ) → List ℕ → Bool
+two_fit limit p = (length p == 2) && pair_fits limit p
+
+-- a term as one number: the number n is n, and the variable x is 2^32 + x
+unfoldable pub code : Term → ℕ
+code (Number n) = n
+code (Variable x) = 4294967296 + x
+
+-- terms that have such a number of their own
+abbrev pub Codes : Term → Type 0
+Codes (Number n) = n < 4294967296
+Codes (Variable x) = x < 4294967296
+
 -- a line is its table, the count of its cells, and room for four terms
 abbrev pub line_in : List ℕ → Line
 line_in xs = record { table = slice_index xs 0; cells = terms_in (slice_index xs 1) (drop 2 xs) }
 
 unfoldable pub line_fits : (limit : ℕ) → List ℕ → Bool
 line_fits limit xs = nat_lt (slice_index xs 0) 4294967296 && (nat_le (slice_index xs 1) 4 && terms_fit limit (slice_index xs 1) (drop 2 xs))
+
+-- the same of ten numbers that lie in a list of their own
+abbrev pub ten_fit : (limit : ℕ) → List ℕ → Bool
+ten_fit limit xs = (length xs == 10) && line_fits limit xs
 
 -- the first n lines that lie in the numbers, ten numbers to a line
 unfoldable pub lines_in : ℕ → List ℕ → List Line

@@ -7,3 +7,4 @@ pub mod Refusals
 pub mod Texts
 pub mod Check
 pub mod Laws
+pub mod Lent

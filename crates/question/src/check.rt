@@ -1,45 +1,37 @@
 // Whether a lent question is one that may be asked, and where not.
-ghost use Rattle.std.specs.Prelude.{◌≡◌, ◌+◌, ◌*◌, ◌≤◌, min, true, length, drop, Some, None, MatchResult, slice_index};
-ghost use Rattle.question.specs.Layout.{lines_fit, question_in};
-ghost use Rattle.question.specs.Check.{agrees, line_good, least_fault, row_good, fault, question_refusal, IsQuestion};
+ghost use Rattle.std.specs.Prelude.{◌≡◌, ℕ, List, ◌*◌, ◌≤◌, ◌&&◌, min, true, length, drop, Some, None, MatchResult, slice_index};
+ghost use Rattle.std.specs.List.{list_all};
+ghost use Rattle.std.specs.Simd.{first_chunks};
+ghost use Rattle.question.specs.Layout.{line_fits, lines_fit, question_in};
+ghost use Rattle.question.specs.Check.{line_agrees, least_fault, row_good, fault, question_refusal, IsQuestion};
 
 use super::fits::{line_fits, terms_fit};
-use super::parts::nth_line;
+use super::lines::Lines;
 use super::refusals::Refusal;
-use super::soundness::row_stands;
+use super::terms::Terms;
 
-// Whether none of the first n lines has the table with another width.
-fn agrees(lines: &[u64], n: usize, table: u64, width: u64) -> bool
-    requires { 10 * n ≤ length lines.now }
-    ensures { result ≡ agrees n table width lines.now }
+// Whether none of the lines has the table with another width.
+fn agrees(lines: &[[u64; 10]], table: u64, width: u64) -> bool
+    ensures { result ≡ list_all (line_agrees table width) lines.now }
 {
-    for i in 0..n {
-        if lines[10 * i] == table && lines[10 * i + 1] != width {
-            return false;
-        }
-    }
-    true
+    lines
+        .iter()
+        .all(|line| line[0] != table || line[1] == width)
 }
 
-// Whether the i-th line is one, and agrees in its width with the lines before it.
-fn line_good(lines: &[u64], i: usize) -> bool
-    requires { 10 * i + 10 ≤ length lines.now }
-    ensures { result ≡ line_good lines.now i }
+// Whether ten numbers behind some lines are one, and agree in its width with those.
+fn line_good(before: &[[u64; 10]], line: &[u64; 10]) -> bool
+    ensures { result ≡ (line_fits 16 line.now && list_all (line_agrees (slice_index line.now 0) (slice_index line.now 1)) before.now) }
 {
-    let line = nth_line(lines, i);
-    if !line_fits(line) {
-        return false;
-    }
-    agrees(lines, i, line[0], line[1])
+    line_fits(line) && agrees(before, line[0], line[1])
 }
 
-// The least of the first n lines that is at fault.
-fn least_fault(lines: &[u64], n: usize) -> Option<u64>
-    requires { 10 * n ≤ length lines.now }
-    ensures { result ≡ least_fault lines.now n 0 }
+// The least of the lines that is at fault.
+fn least_fault(lines: &[[u64; 10]]) -> Option<u64>
+    ensures { (n : ℕ) (xs : List ℕ) → lines.now ≡ first_chunks 10 n xs → result ≡ least_fault xs n 0 }
 {
-    for i in 0..n {
-        if !line_good(lines, i) {
+    for (i, line) in lines.iter().enumerate() {
+        if !line_good(&lines[..i], line) {
             return Some(i as u64);
         }
     }
@@ -51,16 +43,17 @@ fn row_good(question: &[u64]) -> bool
     requires { (50 ≤ length question.now) × (lines_fit 16 (min (slice_index question.now 9) 4) (drop 10 question.now) ≡ true) }
     ensures { result ≡ row_good question.now }
 {
-    let count = question[9];
-    let width = question[0];
-    if count < 1 || count > 4 || width > 4 {
+    let (width, count) = (question[0], question[9]);
+    if !(1..=4).contains(&count) || width > 4 {
         return false;
     }
+    let (width, count) = (width as usize, count as usize);
     let row = &question[1..];
-    if !terms_fit(row, width as usize) {
+    if !terms_fit(row, width) {
         return false;
     }
-    row_stands(row, width as usize, &question[10..], count as usize)
+    let lines = Lines::<16>::first_of(&question[10..], count);
+    lines.have_all(&Terms::first_of(row, width))
 }
 
 // Where fifty numbers are no question.
@@ -68,8 +61,9 @@ fn question_fault(question: &[u64]) -> Option<u64>
     requires { 50 ≤ length question.now }
     ensures { result ≡ fault question.now }
 {
-    let lines = question[9].min(4) as usize;
-    if let Some(line) = least_fault(&question[10..], lines) {
+    let (lines, _) = question[10..].as_chunks();
+    let count = question[9].min(4) as usize;
+    if let Some(line) = least_fault(&lines[..count]) {
         return Some(line);
     }
     if row_good(question) { None } else { Some(4) }
@@ -85,9 +79,8 @@ pub fn check_question(question: &[u64]) -> Result<usize, Refusal>
     if question.len() < 50 {
         return Err(Refusal::CutShort(question.len() as u64));
     }
-    let fault = question_fault(question);
-    let None = fault else {
-        return Err(Refusal::NoQuestion(fault.unwrap_or(4)));
-    };
+    if let Some(place) = question_fault(question) {
+        return Err(Refusal::NoQuestion(place));
+    }
     Ok(question[9] as usize)
 }

@@ -1,32 +1,27 @@
 // Laws of questions: each function's contract is one of them.
 ghost use Rattle.question.specs.Laws.{MoreRows, AnyNumbers, ReadsBack, ReportsReadBack, WrittenAccepted};
 
-pub fn more_rows_more_answers() -> u8
+#[tactic(auto, using(crate::proofs::Answering::more_rows))]
+pub fn more_rows_more_answers()
     ensures { MoreRows }
-{
-    0
-}
+{}
 
-pub fn numbers_are_only_told_apart() -> u8
+#[tactic(auto, using(crate::proofs::Answering::any_numbers))]
+pub fn numbers_are_only_told_apart()
     ensures { AnyNumbers }
-{
-    0
-}
+{}
 
-pub fn written_reads_back() -> u8
+#[tactic(auto, using(crate::proofs::Back::reads_back))]
+pub fn written_reads_back()
     ensures { ReadsBack }
-{
-    0
-}
+{}
 
-pub fn written_reports_read_back() -> u8
+#[tactic(auto, using(crate::proofs::Back::reports_read_back))]
+pub fn written_reports_read_back()
     ensures { ReportsReadBack }
-{
-    0
-}
+{}
 
-pub fn written_is_accepted() -> u8
+#[tactic(auto, using(crate::proofs::Back::written_accepted))]
+pub fn written_is_accepted()
     ensures { WrittenAccepted }
-{
-    0
-}
+{}

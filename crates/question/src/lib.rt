@@ -4,23 +4,17 @@
 mod check;
 mod fits;
 mod laws;
-mod parts;
+mod lent;
+mod lines;
 mod refusals;
-mod rows;
-mod soundness;
 mod terms;
-mod write;
 
 pub use check::check_question;
 pub use laws::{
     more_rows_more_answers, numbers_are_only_told_apart, written_is_accepted, written_reads_back,
     written_reports_read_back,
 };
-pub use parts::{
-    line_at, line_count, line_term, lines_of, nth_line, nth_term, row_term, row_width, table, width,
-};
+pub use lent::Question;
+pub use lines::{Line, Lines};
 pub use refusals::Refusal;
-pub use rows::{line_row, question_row};
-pub use soundness::has_variable;
-pub use terms::Term;
-pub use write::write_question;
+pub use terms::{NoTerm, Term, Terms};

@@ -1,7 +1,10 @@
 // Why a call is turned away.
 ghost use Rattle.std.specs.Prelude.{◌≡◌, Some};
+ghost use Rattle.question.specs.declared.refusals.Refusal.TheVariants.{NoMemory};
 ghost use Rattle.question.specs.Refusals.{number, place, refusal_line};
+ghost use Rattle.question.specs.declared.refusals.Refusal.TheVariants.{NoMemory};
 
+use std::alloc::AllocError;
 use std::fmt;
 
 // A case for each refusal, with its place where that varies. The numbers are 1 to 9, in this order.
@@ -60,6 +63,15 @@ impl Refusal {
             Refusal::TooWide => 33,
             Refusal::NoMemory => 0,
         }
+    }
+}
+
+// Where memory that is asked for is not there.
+impl From<AllocError> for Refusal {
+    ghost from_gives = { λ _ e. e ≡ NoMemory };
+
+    fn from(_none: AllocError) -> Self {
+        Self::NoMemory
     }
 }
 

@@ -1,9 +1,9 @@
--- The line that a reading makes: what its codes stand for, one term more, and the whole line, which fits.
-use Rattle.std.proofs.Common.{◌≡◌, ℕ, zero, suc, ◌+◌, ◌-◌, ◌*◌, ◌<◌, ◌≤◌, true, List, [], ◌∷◌, ◌++◌, length, get_or, take, drop, set, replicate, sym, refl, ap, ◌∙◌, subst, arith, le-ltb, lt-ltb}
+-- Lines made of terms that are put as others: what codes stand for, one term more, and the whole line, which fits.
+use Rattle.std.proofs.Common.{◌≡◌, ℕ, ◌+◌, ◌-◌, ◌*◌, ◌<◌, ◌≤◌, true, List, [], ◌∷◌, ◌++◌, length, get_or, take, drop, set, replicate, sym, refl, ap, ◌∙◌, subst, arith}
 use Rattle.std.proofs.lemmas.List.{append_assoc, take_all, take_at, take_more, drop_more, drop-replicate, length-append, length-take-le, get_or_default}
 use Rattle.question.specs.declared.terms.Term.{Term}
 use Rattle.question.specs.declared.terms.Term.TheVariants.{Number, Variable}
-use Rattle.question.specs.Question.{Line, In}
+use Rattle.question.specs.Question.{Line}
 use Rattle.question.specs.Sound.{TermWithin, TermsWithin}
 use Rattle.question.specs.Layout.{terms_out, line_in, line_out, line_fits, lines_in}
 use Rattle.question.specs.Check.{WritesLine, WritesLines}
@@ -13,23 +13,7 @@ use Rattle.question.proofs.Written.{within-fits-line, writes_lines_in}
 use Rattle.containment.specs.Reading.{put, all_put}
 use Rattle.containment.specs.Search.{fill, filling}
 use Rattle.containment.specs.Coding.{decode, part_of}
-use Rattle.containment.proofs.Readings.{put_in}
-
--- a number, a variable, and what is not put
-pub decode-number : (k : ℕ) → k < 4294967296 → fill (decode k) ≡ Number k
-unfolding decode fill
-decode-number k h = rw (lt-ltb k 4294967296 h)
-
-pub decode_variable : (k : ℕ) → 4294967296 ≤ k → k < 8589934592 → fill (decode k) ≡ Variable (k - 4294967296)
-unfolding decode fill
-decode_variable k h b = rw (le-ltb k 4294967296 h, lt-ltb k 8589934592 b)
-
-pub decode_neither : (k : ℕ) → 8589934592 ≤ k → fill (decode k) ≡ Number 0
-unfolding decode fill
-decode_neither k h = let a : 4294967296 ≤ k = omega arith in rw (le-ltb k 4294967296 a, le-ltb k 8589934592 h)
-
-pub variable_small : (k : ℕ) → 4294967296 ≤ k → k < 8589934592 → TermWithin (fill (decode k)) → k - 4294967296 < 16
-variable_small k h b w = subst (λ (t : Term). TermWithin t) (decode_variable k h b) w
+use Rattle.containment.proofs.Readings.{length-put, put_in}
 
 -- a variable's code, where it is kept
 pub code-kept : (x : ℕ) (a : List ℕ) → x < length a → fill (decode (get_or a x 0)) ≡ filling (part_of a) x
@@ -46,11 +30,6 @@ all_put-append : (h : ℕ → Term) (ts us : List Term) → all_put h (ts ++ us)
 unfolding all_put
 all_put-append h [] us = refl
 all_put-append h (t ∷ ts) us = ap (λ (vs : List Term). put h t ∷ vs) (all_put-append h ts us)
-
-pub length-all_put : (h : ℕ → Term) (ts : List Term) → length (all_put h ts) ≡ length ts
-unfolding all_put
-length-all_put h [] = refl
-length-all_put h (t ∷ ts) = ap suc (length-all_put h ts)
 
 put-more : (h : ℕ → Term) (i : ℕ) (ts : List Term) (t : Term) (a b : ℕ) → i < length ts → drop i ts ≡ t ∷ drop (i + 1) ts → terms_out (put h t ∷ []) ≡ a ∷ b ∷ []
     → terms_out (all_put h (take (i + 1) ts)) ≡ terms_out (all_put h (take i ts)) ++ a ∷ b ∷ []
@@ -72,7 +51,7 @@ use_more t n i h ts u a b out line ten l few e o inv =
     let f : List ℕ = t ∷ n ∷ terms_out (all_put h (take i ts)) in
     let s : 3 + 2 * i ≡ 2 + 2 * i + 1 = omega arith in
     let d : 2 + 2 * (i + 1) ≡ 2 + 2 * i + 2 = omega arith in
-    let w : length f ≡ 2 + 2 * i = omega (arith, length-terms_out (all_put h (take i ts)), length-all_put h (take i ts), length-take-le i ts (omega arith)) in
+    let w : length f ≡ 2 + 2 * i = omega (arith, length-terms_out (all_put h (take i ts)), length-put h (take i ts), length-take-le i ts (omega arith)) in
     rw (s, d, put-more h i ts u a b l e o, inv) (set_two (2 + 2 * i) f out a b w (omega arith))
 
 -- the whole line
@@ -81,7 +60,7 @@ pub use_whole : (t w i : ℕ) (h : ℕ → Term) (ts : List Term) → w ≡ leng
 unfolding line_out
 use_whole t w i h ts e few b =
     let a : take i ts ≡ ts = take_all i ts (omega arith) in
-    let c : w ≡ length (all_put h ts) = e ∙ sym (length-all_put h ts) in
+    let c : w ≡ length (all_put h ts) = e ∙ sym (length-put h ts) in
     let d : drop (2 + 2 * i) (replicate {A = ℕ} 10 0) ≡ replicate (8 - length (terms_out (all_put h ts))) 0 = drop-replicate {X = ℕ} (2 + 2 * i) 10 0 ∙ ap (λ (k : ℕ). replicate {A = ℕ} k 0) (omega (arith, length-terms_out (all_put h ts))) in
     rw (a, d) (ap (λ (k : ℕ). t ∷ k ∷ (terms_out (all_put h ts) ++ replicate (8 - length (terms_out (all_put h ts))) 0)) c)
 
@@ -103,15 +82,6 @@ pub use_fits : (t : ℕ) (h : ℕ → Term) (ts : List Term) → t < 4294967296 
 use_fits t h ts b f w =
     let l : Line = record { table = t; cells = all_put h ts } in
     within-fits-line (line_out l) l (line_written l) b (record {
-      few = rw (length-all_put h ts) w.few;
+      few = rw (length-put h ts) w.few;
       each = λ u m. let p = put_in h u ts m in subst (λ (v : Term). TermWithin v) p.2 (put-within h f p.0 (w.each p.0 p.1));
     })
-
--- what stands at a place stands in the list
-pub in_drop : {A : Type 0} {a : A} (i : ℕ) (xs : List A) → In a (drop i xs) → In a xs
-in_drop zero xs m = m
-in_drop (suc i) [] m = m
-in_drop (suc i) (x ∷ xs) m = In.there (in_drop i xs m)
-
-pub at_place : {A : Type 0} (a : A) (i : ℕ) (xs ys : List A) → drop i xs ≡ a ∷ ys → In a xs
-at_place {A} a i xs ys e = in_drop i xs (subst (λ (zs : List A). In a zs) (sym e) In.here)

@@ -1,50 +1,55 @@
 -- All readings of a report, one after another: each step of going through the lines, and that what they put stays within the limits.
-use Rattle.std.proofs.Common.{◌≡◌, ℕ, ◌+◌, ◌<◌, ◌≤◌, Bool, true, false, cond, eqb, List, [], ◌∷◌, map, length, drop, Some, None, Option, refl, ap, ◌∙◌, subst, arith, lit<}
-use Rattle.std.proofs.lemmas.List.{drop_all, map-append}
+use Rattle.std.proofs.Common.{◌≡◌, ℕ, suc, ◌-◌, ◌<◌, ◌≤◌, Bool, true, false, cond, eqb, nat_lt, List, [], ◌∷◌, map, length, get_or, Some, None, Option, MatchOption, sym, refl, ap, ◌∙◌, subst, inl, inr, arith, lit<, ltb-true, ltb-false}
+use Rattle.std.proofs.lemmas.List.{map-append}
+use Rattle.std.specs.List.{list_all}
+use Rattle.std.proofs.lemmas.Bool.{and_from, cases_lt}
+use Rattle.std.proofs.lemmas.Bool.Decides.{nat_tests}
+use Rattle.std.proofs.lemmas.List.{get_or_past}
+use Rattle.std.proofs.lemmas.List.Sums.{AllPass-from_list_all}
 use Rattle.question.specs.declared.terms.Term.{Term}
 use Rattle.question.specs.declared.terms.Term.TheVariants.{Number, Variable}
 use Rattle.question.specs.Question.{Line, In}
 use Rattle.question.specs.Sound.{TermWithin}
 use Rattle.containment.specs.Search.{term_eqb, Part, nothing, put_one, and_then, match_var, match_term, match_terms, match_line, fill, filling}
-use Rattle.reports.specs.Widest.{all_lines, all_readings, insert_line}
+use Rattle.containment.specs.Coding.{decode, part_of}
+use Rattle.containment.proofs.Coding.{decode-code}
+use Rattle.containment.proofs.Codes.{decode_past}
+use Rattle.question.specs.Layout.{code, Codes}
+use Rattle.std.specs.Option.{unwrap_or}
+use Rattle.reports.specs.Widest.{all_lines, all_readings, code_within, insert_line}
 use Rattle.reports.specs.Uses.{insert_all}
 use Rattle.reports.proofs.Inserting.{insert_all-append, insert_all_longer}
 
--- all lines are put, and the next line is to be put
-pub readings_end : (ls ms : List Line) (i : ℕ) (s : Part) → length ls ≤ i → all_readings (drop i ls) ms s ≡ s ∷ []
-unfolding all_readings
-readings_end ls ms i s h = ap (λ (ks : List Line). all_readings ks ms s) (drop_all i ls h)
+-- all lines are put: the use of the one reading is put in
+pub keep_end : (f : Part → Line) (ls ms ks : List Line) (s : Part) → ls ≡ [] → insert_all (map f (all_readings ls ms s)) ks ≡ insert_line (f s) ks
+unfolding all_readings insert_all
+keep_end f ls ms ks s e = ap (λ (ns : List Line). insert_all (map f (all_readings ns ms s)) ks) e
 
-pub readings_more : (ls ms : List Line) (i : ℕ) (l : Line) (s : Part) → drop i ls ≡ l ∷ drop (i + 1) ls → all_readings (drop i ls) ms s ≡ all_lines (all_readings (drop (i + 1) ls) ms) ms l s
+-- the next line is to be put
+pub keep_line : (f : Part → Line) (ls ms ks rest : List Line) (l : Line) (s : Part) → ls ≡ l ∷ rest → insert_all (map f (all_lines (all_readings rest ms) ms l s)) ks ≡ insert_all (map f (all_readings ls ms s)) ks
 unfolding all_readings
-readings_more ls ms i l s e = ap (λ (ks : List Line). all_readings ks ms s) e
-
--- the use of the one reading is put in
-pub keep_end : (f : Part → Line) (ls ms ks : List Line) (i : ℕ) (s : Part) → length ls ≤ i → insert_all (map f (all_readings (drop i ls) ms s)) ks ≡ insert_line (f s) ks
-unfolding insert_all
-keep_end f ls ms ks i s h = ap (λ (ps : List Part). insert_all (map f ps) ks) (readings_end ls ms i s h)
+keep_line f ls ms ks rest l s e = ap (λ (ns : List Line). insert_all (map f (all_readings ns ms s)) ks) (sym e)
 
 -- a line that it cannot be put as, one that it can, and the end
-pub keep_past : (f : Part → Line) (go : Part → List Part) (ms ks : List Line) (j : ℕ) (l m : Line) (s : Part) → drop j ms ≡ m ∷ drop (j + 1) ms → match_line s l m ≡ None
-    → insert_all (map f (all_lines go (drop j ms) l s)) ks ≡ insert_all (map f (all_lines go (drop (j + 1) ms) l s)) ks
+pub keep_past : (f : Part → Line) (go : Part → List Part) (ms ns ks : List Line) (l m : Line) (s : Part) → ms ≡ m ∷ ns → match_line s l m ≡ None
+    → insert_all (map f (all_lines go ms l s)) ks ≡ insert_all (map f (all_lines go ns l s)) ks
 unfolding all_lines
-keep_past f go ms ks j l m s e g = ap (λ (ns : List Line). insert_all (map f (all_lines go ns l s)) ks) e ∙ rw g
+keep_past f go ms ns ks l m s e g = ap (λ (os : List Line). insert_all (map f (all_lines go os l s)) ks) e ∙ rw g
 
-pub keep-on : (f : Part → Line) (go : Part → List Part) (ms ks : List Line) (j : ℕ) (l m : Line) (s r : Part) → drop j ms ≡ m ∷ drop (j + 1) ms → match_line s l m ≡ Some r
-    → insert_all (map f (all_lines go (drop j ms) l s)) ks ≡ insert_all (map f (all_lines go (drop (j + 1) ms) l s)) (insert_all (map f (go r)) ks)
+pub keep-on : (f : Part → Line) (go : Part → List Part) (ms ns ks : List Line) (l m : Line) (s r : Part) → ms ≡ m ∷ ns → match_line s l m ≡ Some r
+    → insert_all (map f (all_lines go ms l s)) ks ≡ insert_all (map f (all_lines go ns l s)) (insert_all (map f (go r)) ks)
 unfolding all_lines
-keep-on f go ms ks j l m s r e g =
-    ap (λ (ns : List Line). insert_all (map f (all_lines go ns l s)) ks) e
-    ∙ rw (g, map-append f (go r) (all_lines go (drop (j + 1) ms) l s), insert_all-append (map f (go r)) (map f (all_lines go (drop (j + 1) ms) l s)) ks)
+keep-on f go ms ns ks l m s r e g =
+    ap (λ (os : List Line). insert_all (map f (all_lines go os l s)) ks) e
+    ∙ rw (g, map-append f (go r) (all_lines go ns l s), insert_all-append (map f (go r)) (map f (all_lines go ns l s)) ks)
 
-pub keep-over : (f : Part → Line) (go : Part → List Part) (ms ks : List Line) (j : ℕ) (l m : Line) (s r : Part) → drop j ms ≡ m ∷ drop (j + 1) ms → match_line s l m ≡ Some r
-    → 32 < length (insert_all (map f (go r)) ks) → 32 < length (insert_all (map f (all_lines go (drop j ms) l s)) ks)
-keep-over f go ms ks j l m s r e g h =
-    omega (arith, ap length (keep-on f go ms ks j l m s r e g), insert_all_longer (map f (all_lines go (drop (j + 1) ms) l s)) (insert_all (map f (go r)) ks))
+pub keep-over : (f : Part → Line) (go : Part → List Part) (ms ns ks : List Line) (l m : Line) (s r : Part) → ms ≡ m ∷ ns → match_line s l m ≡ Some r
+    → 32 < length (insert_all (map f (go r)) ks) → 32 < length (insert_all (map f (all_lines go ms l s)) ks)
+keep-over f go ms ns ks l m s r e g h = omega (arith, ap length (keep-on f go ms ns ks l m s r e g), insert_all_longer (map f (all_lines go ns l s)) (insert_all (map f (go r)) ks))
 
-pub keep-none : (f : Part → Line) (go : Part → List Part) (ms ks : List Line) (j : ℕ) (l : Line) (s : Part) → length ms ≤ j → insert_all (map f (all_lines go (drop j ms) l s)) ks ≡ ks
+pub keep-none : (f : Part → Line) (go : Part → List Part) (ms ks : List Line) (l : Line) (s : Part) → ms ≡ [] → insert_all (map f (all_lines go ms l s)) ks ≡ ks
 unfolding all_lines insert_all
-keep-none f go ms ks j l s h = ap (λ (ns : List Line). insert_all (map f (all_lines go ns l s)) ks) (drop_all j ms h)
+keep-none f go ms ks l s e = ap (λ (ns : List Line). insert_all (map f (all_lines go ns l s)) ks) e
 
 -- what is put is within the limits
 abbrev pub Within : Part → Type 0
@@ -91,3 +96,43 @@ line-within s r l m e w v = go (eqb l.table m.table) e
     go : (b : Bool) → cond b (match_terms s l.cells m.cells) None ≡ Some r → Within r
     go true f = terms_within s r l.cells m.cells f w v
     go false f = let z : ◌≡◌ {A = ℕ} 0 1 = cc f in absurd (omega arith)
+
+-- the same of the codes of a reading
+code-number : (k : ℕ) → TermWithin (fill (decode k)) → code_within k ≡ true
+unfolding decode fill
+code-number k w = go (nat_lt k 4294967296) refl w (nat_lt k 8589934592) refl w
+  where
+    go : (b : Bool) → nat_lt k 4294967296 ≡ b → TermWithin (fill (cond b (Some (Number k)) (cond (nat_lt k 8589934592) (Some (Variable (k - 4294967296))) None))) → (c : Bool) → nat_lt k 8589934592 ≡ c
+        → TermWithin (fill (cond (nat_lt k 4294967296) (Some (Number k)) (cond (nat_lt k 8589934592) (Some (Variable (k - 4294967296))) None))) → code_within k ≡ true
+    go true e v c f u = let h : k < 4294967296 = ltb-true _ _ e in grind (arith, nat_tests)
+    go false e v true f u = let h : k - 4294967296 < 16 = rw f at v in grind (arith, nat_tests)
+    go false e v false f u = let h : 8589934592 ≤ k = ltb-false _ _ f in grind (arith, nat_tests)
+
+number-code : (k : ℕ) → code_within k ≡ true → TermWithin (fill (decode k))
+unfolding decode fill
+number-code k w = go (nat_lt k 4294967296) refl (nat_lt k 8589934592) refl
+  where
+    go : (b : Bool) → nat_lt k 4294967296 ≡ b → (c : Bool) → nat_lt k 8589934592 ≡ c → TermWithin (fill (cond b (Some (Number k)) (cond c (Some (Variable (k - 4294967296))) None)))
+    go true e c f = ltb-true _ _ e
+    go false e true f = let h : k < 8589934592 = ltb-true _ _ f in let g : 4294967296 ≤ k = ltb-false _ _ e in let m : k < 4294967312 = grind (arith, nat_tests) in omega arith
+    go false e false f = lit< tt
+
+pub codes-within : (a : List ℕ) → list_all code_within a ≡ true → Within (part_of a)
+unfolding decode fill
+codes-within a e x = elim (cases_lt x (length a)) [
+  | inl h ↦ number-code (get_or a x 8589934592) (AllPass-from_list_all code_within a e x 8589934592 h)
+  | inr h ↦ rw (get_or_past a x 8589934592 h) (lit< tt)
+]
+
+pub within-codes : (a : List ℕ) → Within (part_of a) → list_all code_within a ≡ true
+within-codes [] w = refl
+within-codes (k ∷ a) w = and_from _ _ (code-number k (w 0)) (within-codes a (λ x. w (suc x)))
+
+-- what a code stands for, as it is had again
+pub code-put : (o : Option Term) (k : ℕ) → MatchOption o (4294967552 ≤ k) (λ t. (k ≡ code t) × Codes t) → code_within k ≡ true → unwrap_or o (Number 0) ≡ fill (decode k)
+unfolding fill
+code-put (Some t) k h w = rw (h.0, decode-code t h.1)
+code-put None k h w = let g : 8589934592 ≤ k = grind (arith, nat_tests) in rw (decode_past k g)
+
+pub code_at : (a : List ℕ) (x : ℕ) → list_all code_within a ≡ true → x < length a → code_within (get_or a x 0) ≡ true
+code_at a x e h = AllPass-from_list_all code_within a e x 0 h

@@ -1,6 +1,5 @@
--- A line put in where it belongs: each step of looking for its place, how many lines there are then, and lines put in one after another.
-use Rattle.std.proofs.Common.{◌≡◌, ℕ, ◌+◌, ◌<◌, ◌≤◌, Bool, true, false, cond, List, [], ◌∷◌, ◌++◌, length, get_or, take, drop, sym, refl, ap, ◌∙◌, arith}
-use Rattle.std.proofs.lemmas.List.{append_assoc, take-append-drop, take_more, drop_more, drop_all, length-append, length-drop, length-take-le}
+-- Lines put in one after another where they belong: there are never fewer, and the order in which they are put in does not matter.
+use Rattle.std.proofs.Common.{◌≡◌, ◌≤◌, Bool, true, false, cond, List, [], ◌∷◌, ◌++◌, length, refl, arith}
 use Rattle.question.specs.Question.{Line, In}
 use Rattle.question.proofs.Places.{in_head}
 use Rattle.reports.specs.Widest.{line_less, insert_line, sort_lines, Sorted}
@@ -8,32 +7,6 @@ use Rattle.reports.specs.Uses.{insert_all}
 use Rattle.containment.specs.Order.{Rising}
 use Rattle.reports.proofs.Widening.{insert_new, insert_old, insert_from, sort_in, sort_out}
 use Rattle.reports.proofs.Sorting.{insert_sorted, sort_sorted, sorted_one}
-
--- the line belongs here, it is this one, it belongs further on, and the end
-pub insert_here : (l m : Line) (i : ℕ) (ls : List Line) → drop i ls ≡ m ∷ drop (i + 1) ls → line_less l m ≡ true → insert_line l (drop i ls) ≡ l ∷ drop i ls
-unfolding insert_line
-insert_here l m i ls e h = rw (e, h)
-
-pub insert_there : (l m : Line) (i : ℕ) (ls : List Line) → drop i ls ≡ m ∷ drop (i + 1) ls → line_less l m ≡ false → line_less m l ≡ false → take i ls ++ insert_line l (drop i ls) ≡ ls
-unfolding insert_line
-insert_there l m i ls e h k = ap (λ (ms : List Line). take i ls ++ ms) (ap (insert_line l) e ∙ rw (h, k) (sym e)) ∙ take-append-drop i ls
-
-pub insert_past : (l m : Line) (i : ℕ) (ls : List Line) → i < length ls → drop i ls ≡ m ∷ drop (i + 1) ls → line_less l m ≡ false → line_less m l ≡ true
-    → take i ls ++ insert_line l (drop i ls) ≡ take (i + 1) ls ++ insert_line l (drop (i + 1) ls)
-unfolding insert_line
-insert_past l m i ls b e h k =
-    let g : get_or ls i m ≡ m = cc (drop_more ls i m b, e) in
-    let t : take (i + 1) ls ≡ take i ls ++ m ∷ [] = take_more ls i m b ∙ ap (λ (n : Line). take i ls ++ n ∷ []) g in
-    let s : insert_line l (drop i ls) ≡ m ∷ insert_line l (drop (i + 1) ls) = ap (insert_line l) e ∙ rw (h, k) in
-    rw (s, t, append_assoc (take i ls) (m ∷ []) (insert_line l (drop (i + 1) ls)))
-
-pub insert_end : (l : Line) (i : ℕ) (ls : List Line) → length ls ≤ i → insert_line l (drop i ls) ≡ l ∷ drop i ls
-unfolding insert_line
-insert_end l i ls h = rw (drop_all i ls h)
-
--- one line more
-pub length-put_in : (l : Line) (k : ℕ) (ls : List Line) → k ≤ length ls → length (take k ls ++ l ∷ drop k ls) ≡ length ls + 1
-length-put_in l k ls h = length-append (take k ls) (l ∷ drop k ls) ∙ omega (arith, length-take-le k ls h, length-drop k ls)
 
 -- there are never fewer
 insert_longer : (l : Line) (ms : List Line) → length ms ≤ length (insert_line l ms)

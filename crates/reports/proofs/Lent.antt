@@ -46,7 +46,7 @@ each_at P [] d f a i = elim i [ ]
 each_at P (x ∷ xs) d f a i = in_head P (f 0 (omega arith)) (λ j. each_at P xs d (λ k h. f (suc k) (omega arith)) a j) i
 
 -- a report that is good is a question
-none_from : {A : Type 0} (o : Option A) → not (is_some o) ≡ true → o ≡ None
+pub none_from : {A : Type 0} (o : Option A) → not (is_some o) ≡ true → o ≡ None
 none_from None e = refl
 none_from (Some a) e = let z : ◌≡◌ {A = ℕ} 0 1 = cc e in absurd (omega arith)
 

@@ -1,22 +1,17 @@
 -- Lines within limits fit where they are written, and the lines of uses are within 256 variables.
-use Rattle.std.proofs.Common.{◌≡◌, ℕ, ◌+◌, ◌-◌, ◌*◌, ◌<◌, ◌≤◌, true, List, [], ◌∷◌, ◌++◌, length, get_or, drop, replicate, sym, refl, subst, inl, inr, arith}
+use Rattle.std.proofs.Common.{◌≡◌, ℕ, ◌+◌, ◌-◌, ◌<◌, ◌≤◌, true, List, [], ◌∷◌, ◌++◌, length, replicate, sym, refl, ap, ◌∙◌, subst, inl, inr, arith, eq-eqb, ltb-true}
 use Rattle.std.proofs.lemmas.Bool.Decides.{nat_tests}
-use Rattle.std.proofs.lemmas.Bool.{and_from, lt-ltb, le-leb}
-use Rattle.std.proofs.lemmas.List.{append_assoc, drop_at}
+use Rattle.std.proofs.lemmas.Bool.{and_parts, and_from, lt-ltb, le-leb}
+use Rattle.std.proofs.lemmas.List.{append_assoc, append-nil}
 use Rattle.question.specs.declared.terms.Term.{Term}
 use Rattle.question.specs.declared.terms.Term.TheVariants.{Number, Variable}
-use Rattle.question.specs.Question.{Line, Question, In}
-use Rattle.question.specs.Sound.{TermWithin, Allowed}
-use Rattle.question.specs.Layout.{term_fits, terms_fit, line_fits, lines_fit, lines_in, terms_out, line_out, lines_out}
-use Rattle.question.proofs.Members.{in_split}
-use Rattle.question.proofs.Writing.{length-line_out}
-use Rattle.question.proofs.Written.{writes_lines_in}
-use Rattle.question.proofs.Back.{lines-there}
+use Rattle.question.specs.Question.{Line, In}
+use Rattle.question.specs.Sound.{TermWithin, TermsWithin}
+use Rattle.question.specs.Layout.{term_fits, terms_fit, line_in, line_fits, ten_fit, terms_out, line_out}
+use Rattle.question.proofs.Written.{fits-within-cells}
 use Rattle.containment.specs.Reading.{put, line_put}
-use Rattle.containment.proofs.Readings.{length-put, put_in, put_lines-each}
-use Rattle.reports.specs.Reports.{no_question}
-use Rattle.reports.specs.Expand.{assign, row_put, use_lines, expand_lines}
-use Rattle.reports.proofs.Reporting.{report_in}
+use Rattle.containment.proofs.Readings.{length-put, put_in}
+use Rattle.reports.specs.Expand.{assign, row_put}
 use Rattle.reports.proofs.Expanding.{assign_in}
 
 -- a number is below 2^32, and a variable below the limit
@@ -48,22 +43,6 @@ line-under-fits limit l rest u =
     let f : terms_fit limit (length l.cells) ((terms_out l.cells ++ z) ++ rest) ≡ true = rw (append_assoc (terms_out l.cells) z rest) (terms_under-fit limit l.cells (z ++ rest) u.each) in
     and_from _ _ (lt-ltb _ _ u.table) (and_from _ _ (le-leb _ _ u.few) f)
 
-lines-under-fit : (limit : ℕ) (ls : List Line) (rest : List ℕ) → ((l : Line) → In l ls → LineUnder limit l) → lines_fit limit (length ls) (lines_out ls ++ rest) ≡ true
-unfolding lines_fit lines_out
-lines-under-fit limit [] rest f = refl
-lines-under-fit limit (l ∷ ls) rest f =
-    let a : (line_out l ++ lines_out ls) ++ rest ≡ line_out l ++ (lines_out ls ++ rest) = append_assoc (line_out l) (lines_out ls) rest in
-    let d : drop 10 (line_out l ++ (lines_out ls ++ rest)) ≡ lines_out ls ++ rest = drop_at (line_out l) (lines_out ls ++ rest) 10 (length-line_out l (f l In.here).few) in
-    rw (a, d) (and_from _ _ (line-under-fits limit l (lines_out ls ++ rest) (f l In.here)) (lines-under-fit limit ls rest (λ m i. f m (In.there i))))
-
--- lines within limits, written, are there and fit
-pub record There (limit : ℕ) (ls : List Line) (rest : List ℕ) : Type 0 where
-  pub lines : lines_in (length ls) (lines_out ls ++ rest) ≡ ls
-  pub fit : lines_fit limit (length ls) (lines_out ls ++ rest) ≡ true
-
-pub there : (limit : ℕ) (ls : List Line) (rest : List ℕ) → ((l : Line) → In l ls → LineUnder limit l) → There limit ls rest
-there limit ls rest f = record { lines = writes_lines_in ls (lines_out ls ++ rest) (lines-there ls rest (λ l i. (f l i).few)); fit = lines-under-fit limit ls rest f }
-
 -- what a use puts in is within 256 variables
 term_wider : (t : Term) → TermWithin t → TermUnder 256 t
 term_wider (Number n) h = h
@@ -77,27 +56,17 @@ put_under row cells base (Variable x) h f b =
       | inr m ↦ term_wider (assign row cells (Variable (base + x)) x) (f (assign row cells (Variable (base + x)) x) m)
     ]
 
-line_put-under : (row cells : List Term) (base : ℕ) (r : Question) → Allowed r → ((c : Term) → In c cells → TermWithin c) → base ≤ 240
-    → (l : Line) → In l r.lines → LineUnder 256 (line_put (row_put row cells base) l)
-unfolding line_put
-line_put-under row cells base r a f b l i =
+-- a line of a question, put so and written, fits
+pub put_fits : (row cells : List Term) (base : ℕ) (xs out : List ℕ) → line_fits 16 xs ≡ true → ((c : Term) → In c cells → TermWithin c) → base ≤ 240 → out ≡ line_out (line_put (row_put row cells base) (line_in xs)) → length out ≡ 10
+    → ten_fit 256 out ≡ true
+unfolding line_put line_fits
+put_fits row cells base xs out f g b e ten =
     let h = row_put row cells base in
-    record {
-      table = a.tables l i;
-      few = rw (length-put h l.cells) (a.cells l i).few;
-      each = λ t j. let p = put_in h t l.cells j in subst (λ (u : Term). TermUnder 256 u) p.2 (put_under row cells base p.0 ((a.cells l i).each p.0 p.1) f b);
-    }
-
--- the uses: each names a report, and its terms are within the limits
-pub expand-under : (reports : List Question) (base : ℕ) (us : List Line) → ((r : Question) → In r reports → Allowed r)
-    → ((u : Line) → In u us → (u.table < length reports) × ((c : Term) → In c u.cells → TermWithin c)) → base + 16 * length us ≤ 256
-    → (l : Line) → In l (expand_lines reports 16 base us) → LineUnder 256 l
-unfolding expand_lines
-expand-under reports base [] a f b l i = elim i [ ]
-expand-under reports base (u ∷ us) a f b l i =
-    let r = get_or reports u.table no_question in
-    let g = f u In.here in
-    elim (in_split (use_lines reports base u) (expand_lines reports 16 (base + 16) us) i) [
-      | inl j ↦ put_lines-each (row_put r.row u.cells base) (λ (m : Line). LineUnder 256 m) r.lines (line_put-under r.row u.cells base r (a r (report_in reports u.table g.0)) g.1 (omega arith)) l j
-      | inr j ↦ expand-under reports (base + 16) us a (λ v k. f v (In.there k)) (omega arith) l j
-    ]
+    let l = line_in xs in
+    let w : TermsWithin l.cells = fits-within-cells xs f in
+    let under : LineUnder 256 (line_put h l) = record {
+      table = ltb-true _ _ (and_parts _ _ f).0;
+      few = rw (length-put h l.cells) w.few;
+      each = λ t j. let p = put_in h t l.cells j in subst (λ (u : Term). TermUnder 256 u) p.2 (put_under row cells base p.0 (w.each p.0 p.1) g b);
+    } in
+    and_from _ _ (eq-eqb _ _ ten) (ap (line_fits 256) (e ∙ sym (append-nil (line_out (line_put h l)))) ∙ line-under-fits 256 (line_put h l) [] under)

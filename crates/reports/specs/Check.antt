@@ -1,5 +1,7 @@
 -- How lent reports are turned away, beside the question that is asked of them, and what it means that they are not. Assumes nothing: these are definitions.
-use Rattle.std.specs.Prelude.{◌≡◌, ℕ, zero, suc, ◌+◌, ◌*◌, ◌<◌, ◌≤◌, Bool, true, false, cond, not, ◌&&◌, List, [], ◌∷◌, ◌++◌, length, get_or, take, drop, is_some, Some, None, Option, ◌==◌, nat_le, slice_index, slice_index_or}
+use Rattle.std.specs.Prelude.{◌≡◌, ℕ, zero, suc, ◌+◌, ◌*◌, ◌<◌, ◌≤◌, Bool, true, false, cond, not, ◌&&◌, List, [], ◌∷◌, ◌++◌, map, length, get_or, take, drop, is_some, Some, None, Option, ◌==◌, nat_le, slice_index, slice_index_or}
+use Rattle.std.specs.List.{list_all}
+use Rattle.std.specs.Simd.{first_chunks}
 use Rattle.std.specs.Option.{option_map, option_or}
 use Rattle.question.specs.declared.terms.Term.{Term}
 use Rattle.question.specs.declared.terms.Term.TheVariants.{Number, Variable}
@@ -50,6 +52,21 @@ report_good question reports i =
 unfoldable pub report_fault : (question reports : List ℕ) (n i : ℕ) → Option ℕ
 report_fault question reports zero i = None
 report_fault question reports (suc n) i = cond (report_good question reports i) (report_fault question reports n (i + 1)) (Some i)
+
+-- the same of reports that lie in parts of fifty numbers each, beside a question of some lines
+abbrev pub is_question : List ℕ → Bool
+is_question xs = not (is_some (question_refusal xs))
+
+unfoldable pub report_parts : List ℕ → List (List ℕ)
+report_parts reports = first_chunks 50 (slice_index reports 0) (drop 1 reports)
+
+abbrev pub part_good : List Line → List (List ℕ) → ℕ → Bool
+part_good ls parts i =
+    report_fits (slice_index_or parts i []) && (same_widths ls (question_in (slice_index_or parts i [])).lines && list_all (λ r. same_widths r.lines (question_in (slice_index_or parts i [])).lines) (map question_in (take i parts)))
+
+unfoldable pub parts_fault : List Line → List (List ℕ) → (n i : ℕ) → Option ℕ
+parts_fault ls parts zero i = None
+parts_fault ls parts (suc n) i = cond (part_good ls parts i) (parts_fault ls parts n (i + 1)) (Some i)
 
 -- the reports are cut short, or more than eight
 unfoldable pub reports_short : List ℕ → Option Refusal

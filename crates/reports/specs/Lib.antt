@@ -4,3 +4,6 @@ pub mod Widest
 pub mod Laws
 pub mod Check
 pub mod Uses
+pub mod Order
+pub mod Lent
+pub mod Made

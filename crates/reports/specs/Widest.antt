@@ -1,5 +1,5 @@
 -- The widest question over the reports (the canonical rewriting of view tuples): every use that a report has on the question's own lines. If any question over the reports is right, the widest is. Assumes nothing: these are definitions.
-use Rattle.std.specs.Prelude.{◌≡◌, ℕ, suc, ◌<◌, Bool, true, cond, List, [], ◌∷◌, ◌++◌, map, length, Some, None, Option, slice_index_or}
+use Rattle.std.specs.Prelude.{◌≡◌, ℕ, suc, ◌<◌, Bool, true, cond, ◌||◌, List, [], ◌∷◌, ◌++◌, map, length, Some, None, Option, nat_le, nat_lt, slice_index_or}
 use Rattle.question.specs.Question.{Line, Question, In}
 use Rattle.question.specs.Layout.{terms_out}
 use Rattle.containment.specs.Reading.{all_put, Reads}
@@ -42,6 +42,10 @@ all_readings (l ∷ ls) ms s = all_lines (all_readings ls ms) ms l s
 -- the use that a reading of the t-th report makes
 abbrev pub use_of : ℕ → Question → Part → Line
 use_of t r s = record { table = t; cells = all_put (filling s) r.row }
+
+-- a variable's number in a reading is one that stands for a term within the limits, or for nothing
+abbrev pub code_within : ℕ → Bool
+code_within k = nat_lt k 4294967312 || nat_le 8589934592 k
 
 -- the uses of all reports, from the t-th on, as often as there are readings
 unfoldable pub all_uses : Question → ℕ → List Question → List Line

@@ -1,153 +1,135 @@
 // Whether lent reports may be used beside a question, and which of them not.
-ghost use Rattle.std.specs.Prelude.{◌≡◌, ℕ, ◌+◌, ◌*◌, ◌<◌, ◌≤◌, length, drop, Some, None, MatchResult, OnOk, slice_index};
-ghost use Rattle.question.specs.Sound.{has, vars};
-ghost use Rattle.question.specs.Layout.{line_in, question_in};
+ghost use Rattle.std.specs.Prelude.{◌≡◌, ◌*◌, ◌≤◌, ◌&&◌, length, None, Some, MatchOption, MatchResult, OnOk};
+ghost use Rattle.std.specs.Option.{option_map};
+ghost use Rattle.question.specs.declared.refusals.Refusal.TheVariants.{CutShort, NoReport};
+ghost use Rattle.std.specs.List.{list_all};
+ghost use Rattle.question.specs.Layout.{question_in};
 ghost use Rattle.question.specs.Reports.{reports_in};
-ghost use Rattle.question.specs.Check.{question_refusal};
-ghost use Rattle.reports.specs.Check.{different, same_width, same_widths, report_part, agrees_before, report_fits, report_good, report_fault, reports_short, reports_refusal, AreReports, Asked, IsAsked};
+ghost use Rattle.question.specs.Lent.{terms_of, line_of, lines_of, question_of};
+ghost use Rattle.reports.specs.Check.{different, same_width, same_widths, report_parts, report_fits, parts_fault, reports_short, reports_refusal, AreReports, Asked, IsAsked};
+ghost use Rattle.reports.specs.Lent.{reports_of};
 
-use super::parts::report_at;
-use question::{
-    Refusal, Term, check_question, line_at, line_count, row_term, row_width, table, width,
-};
+use super::checked::Reports;
+use question::{Line, Lines, Question, Refusal, Term, Terms};
 
-// Whether the variable stands in the row, from the i-th term on.
-fn stands_from(report: &[u64], i: usize, x: u8) -> bool
-    requires { question_refusal report.now ≡ None }
-    ensures { result ≡ has (vars (drop i (question_in report.now).row)) x }
+// Whether the terms are different variables.
+fn different(terms: Terms<'_, 16>) -> bool
+    ensures { result ≡ different (terms_of terms.entry) }
 {
-    for j in i..row_width(report) {
-        let Term::Variable(y) = row_term(report, j) else {
-            continue;
-        };
-        if y == x {
-            return true;
-        }
-    }
-    false
-}
-
-// Whether the row is made of different variables.
-fn different(report: &[u64]) -> bool
-    requires { question_refusal report.now ≡ None }
-    ensures { result ≡ different (question_in report.now).row }
-{
-    for i in 0..row_width(report) {
-        let Term::Variable(x) = row_term(report, i) else {
+    let mut left = terms;
+    while let Some(term) = left.next() {
+        let Term::Variable(x) = term else {
             return false;
         };
-        if stands_from(report, i + 1, x) {
+        if left.have(x) {
             return false;
         }
     }
     true
 }
 
-// Whether no line of the question has the line's table with another width.
-fn same_width(question: &[u64], line: &[u64]) -> bool
-    requires checked { question_refusal question.now ≡ None }
-    requires ten { length line.now ≡ 10 }
-    ensures { result ≡ same_width (question_in question.now).lines (line_in line.now) }
+// Whether none of the lines has the line's table with another width.
+fn same_width(lines: Lines<'_, 16>, line: &Line<'_, 16>) -> bool
+    ensures { result ≡ same_width (lines_of lines.entry) (line_of line.now) }
 {
-    for i in 0..line_count(question) {
-        let other = line_at(question, i);
-        let same_table = table(other) == table(line);
-        let same_width = width(other) == width(line);
-        if same_table && !same_width {
+    for other in lines {
+        if other.table() == line.table() && other.width() != line.width() {
             return false;
         }
     }
     true
 }
 
-// Whether no table has one width in the question and another in the report.
-fn same_widths(question: &[u64], report: &[u64]) -> bool
-    requires { (question_refusal question.now ≡ None) × (question_refusal report.now ≡ None) }
-    ensures { result ≡ same_widths (question_in question.now).lines (question_in report.now).lines }
+// Whether no table has one width in some lines and another in others.
+fn same_widths(lines: Lines<'_, 16>, others: Lines<'_, 16>) -> bool
+    ensures { result ≡ same_widths (lines_of lines.entry) (lines_of others.entry) }
 {
-    for i in 0..line_count(report) {
-        if !same_width(question, line_at(report, i)) {
+    for other in others {
+        if !same_width(lines, &other) {
             return false;
         }
     }
     true
 }
 
-// Whether a report agrees on the widths of tables with the first n reports.
-fn agrees_before(reports: &[u64], n: usize, report: &[u64]) -> bool
-    requires checked { question_refusal report.now ≡ None }
-    requires lent { 1 + 50 * n ≤ length reports.now }
-    requires before { (j : ℕ) → j < n → question_refusal (report_part j reports.now) ≡ None }
-    ensures { result ≡ agrees_before reports.now report.now n 0 }
+// Whether each of the reports agrees with the lines on the widths of tables.
+fn all_agree(reports: Reports<'_>, lines: Lines<'_, 16>) -> bool
+    ensures { result ≡ list_all (λ r. same_widths r.lines (lines_of lines.entry)) (reports_of reports.entry) }
 {
-    for j in 0..n {
-        if !same_widths(report_at(reports, j), report) {
+    for report in reports {
+        if !same_widths(report.lines(), lines) {
             return false;
         }
     }
     true
 }
 
-// Whether fifty numbers are a question whose row is made of different variables.
-fn report_fits(report: &[u64]) -> bool
-    ensures { result ≡ report_fits report.now }
+// Whether fifty numbers are a report that agrees on the widths of tables with the question and the reports before it.
+fn report_good(question: &Question<'_>, before: Reports<'_>, part: &[u64; 50]) -> bool
+    ensures { result ≡ (report_fits part.now && (same_widths (question_of question.now).lines (question_in part.now).lines && list_all (λ r. same_widths r.lines (question_in part.now).lines) (reports_of before.entry))) }
 {
-    let Ok(_lines) = check_question(report) else {
+    let Ok(report) = Question::checked(part) else {
         return false;
     };
-    different(report)
+    different(report.row())
+        && same_widths(question.lines(), report.lines())
+        && all_agree(before, report.lines())
 }
 
-// Whether the i-th report is one, and agrees on the widths of tables with the question and the reports before it.
-fn report_good(question: &[u64], reports: &[u64], i: usize) -> bool
-    requires checked { question_refusal question.now ≡ None }
-    requires lent { 1 + 50 * i + 50 ≤ length reports.now }
-    requires before { (j : ℕ) → j < i → question_refusal (report_part j reports.now) ≡ None }
-    ensures { result ≡ report_good question.now reports.now i }
+// The reports that are lent, fifty numbers each, unless they are cut short or more than eight.
+fn lent_parts(reports: &[u64]) -> Option<&[[u64; 50]]>
+    ensures { MatchOption result
+        (reports_short reports.now ≡ Some (CutShort (length reports.now)))
+        (λ parts. (reports_short reports.now ≡ None) × (parts.now ≡ report_parts reports.now)) }
 {
-    let report = report_at(reports, i);
-    if !report_fits(report) {
-        return false;
+    let (count, rest) = reports.split_first()?;
+    if *count > 8 {
+        return None;
     }
-    if !same_widths(question, report) {
-        return false;
-    }
-    agrees_before(reports, i, report)
+    let numbers = rest.get(..50 * *count as usize)?;
+    let (parts, _) = numbers.as_chunks();
+    Some(parts)
 }
 
-// The least of the first n reports that is at fault.
-fn report_fault(question: &[u64], reports: &[u64], n: usize) -> Option<u64>
-    requires checked { question_refusal question.now ≡ None }
-    requires lent { 1 + 50 * n ≤ length reports.now }
-    ensures { result ≡ report_fault question.now reports.now n 0 }
+// The reports, or the first that is at fault.
+fn without_fault<'a>(
+    question: &Question<'_>,
+    parts: &'a [[u64; 50]],
+) -> Result<Reports<'a>, Refusal>
+    requires { length parts.now ≤ 8 }
+    ensures { MatchResult result
+        (λ rs. (parts_fault (question_of question.now).lines parts.now (length parts.now) 0 ≡ None) × (rs.left.now ≡ parts.now))
+        (λ e. option_map NoReport (parts_fault (question_of question.now).lines parts.now (length parts.now) 0) ≡ Some e) }
 {
-    for i in 0..n {
-        if !report_good(question, reports, i) {
-            return Some(i as u64);
+    for (i, part) in parts.iter().enumerate() {
+        let before = Reports::of_parts(&parts[..i]);
+        if !report_good(question, before, part) {
+            return Err(Refusal::NoReport(i as u64));
         }
     }
-    None
+    Ok(Reports::of_parts(parts))
 }
 
-// How many reports are lent, or that they are cut short.
-fn report_count(reports: &[u64]) -> Result<usize, Refusal>
-    ensures { MatchResult result
-        (λ n. (reports_short reports.now ≡ None) × (n ≡ slice_index reports.now 0) × (n ≤ 8) × (1 + 50 * n ≤ length reports.now))
-        (λ e. reports_short reports.now ≡ Some e) }
-{
-    let short = Err(Refusal::CutShort(reports.len() as u64));
-    if reports.is_empty() {
-        return short;
-    }
-    let few = reports[0] <= 8;
-    if !few {
-        return short;
-    }
-    let n = reports[0] as usize;
-    if reports.len() < 1 + 50 * n {
-        short
-    } else {
-        Ok(n)
+impl<'a> Reports<'a> {
+    // A question and the reports that are lent beside it, or how they are turned away.
+    pub fn checked<'q>(
+        question: &'q [u64],
+        reports: &'a [u64],
+    ) -> Result<(Question<'q>, Reports<'a>), Refusal>
+        ensures told { MatchResult result
+            (λ both. (reports_refusal question.now reports.now ≡ None) × (question_of both.0 ≡ question_in question.now) × (reports_of both.1 ≡ reports_in reports.now))
+            (λ e. reports_refusal question.now reports.now ≡ Some e) }
+        ensures meant { MatchResult result
+            (λ _. Asked (question_in question.now) (reports_in reports.now))
+            (λ _. (IsAsked question.now reports.now → ⊥)) }
+    {
+        if question.len() < 50 {
+            return Err(Refusal::CutShort(question.len() as u64));
+        }
+        let parts = lent_parts(reports).ok_or(Refusal::CutShort(reports.len() as u64))?;
+        let question = Question::checked(question)?;
+        let reports = without_fault(&question, parts)?;
+        Ok((question, reports))
     }
 }
 
@@ -161,20 +143,6 @@ pub fn check_reports(question: &[u64], reports: &[u64]) -> Result<usize, Refusal
         (λ _. (IsAsked question.now reports.now → ⊥)) }
     ensures kept { OnOk result (AreReports reports.now) }
 {
-    if question.len() < 50 {
-        return Err(Refusal::CutShort(question.len() as u64));
-    }
-    let counted = report_count(reports);
-    let Ok(n) = counted else {
-        return counted;
-    };
-    let asked = check_question(question);
-    let Ok(_lines) = asked else {
-        return asked;
-    };
-    let fault = report_fault(question, reports, n);
-    let None = fault else {
-        return Err(Refusal::NoReport(fault.unwrap_or(8)));
-    };
-    Ok(n)
+    let (_, reports) = Reports::checked(question, reports)?;
+    Ok(reports.count_left())
 }

@@ -1,50 +1,34 @@
 // Laws of reports: each function's contract is one of them.
 ghost use Rattle.reports.specs.Laws.{ExpansionCorrect, RightExact, ByTheWidest, WidestMade, TooWideExact, FewUses, StillRight, SameReports};
 
-pub fn expansion_is_correct() -> u8
+pub fn expansion_is_correct()
     ensures { ExpansionCorrect }
-{
-    0
-}
+{}
 
-pub fn right_is_reading_both_ways() -> u8
+pub fn right_is_reading_both_ways()
     ensures { RightExact }
-{
-    0
-}
+{}
 
-pub fn the_widest_decides() -> u8
+pub fn the_widest_decides()
     ensures { ByTheWidest }
-{
-    0
-}
+{}
 
-pub fn widest_is_made() -> u8
+pub fn widest_is_made()
     ensures { WidestMade }
-{
-    0
-}
+{}
 
-pub fn too_wide_is_exact() -> u8
+pub fn too_wide_is_exact()
     ensures { TooWideExact }
-{
-    0
-}
+{}
 
-pub fn no_more_uses_than_lines() -> u8
+pub fn no_more_uses_than_lines()
     ensures { FewUses }
-{
-    0
-}
+{}
 
-pub fn still_right_with_more() -> u8
+pub fn still_right_with_more()
     ensures { StillRight }
-{
-    0
-}
+{}
 
-pub fn same_reports_for_the_same() -> u8
+pub fn same_reports_for_the_same()
     ensures { SameReports }
-{
-    0
-}
+{}

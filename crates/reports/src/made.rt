@@ -1,67 +1,49 @@
-// The use that a reading of a report makes, as a line.
-ghost use Rattle.std.specs.Prelude.{◌≡◌, ℕ, ◌<◌, true, [], ◌∷◌, length, None};
-ghost use Rattle.question.specs.Sound.{TermWithin};
-ghost use Rattle.question.specs.Layout.{terms_out, line_out, line_fits, question_in};
-ghost use Rattle.question.specs.Check.{question_refusal};
-ghost use Rattle.containment.specs.Reading.{put};
-ghost use Rattle.containment.specs.Search.{fill, filling};
-ghost use Rattle.containment.specs.Coding.{decode, part_of};
-ghost use Rattle.reports.specs.Widest.{use_of};
+// Readings of a report into the lines of a question, and the uses that they make.
+ghost use Rattle.std.specs.Prelude.{◌≡◌, true};
+ghost use Rattle.std.specs.List.{list_all};
+ghost use Rattle.containment.specs.Search.{nothing, match_line, filling};
+ghost use Rattle.containment.specs.Coding.{part_of};
+ghost use Rattle.reports.specs.Widest.{code_within};
 
+use super::put::Put;
 use containment::Reading;
-use question::{Term, row_term, row_width};
+use question::{Line, Term};
 
-// The term that a reading's code stands for; what is not put is the number 0.
-fn decoded(code: u64) -> Term
-    requires { TermWithin (fill (decode code)) }
-    ensures { result ≡ fill (decode code) }
-{
-    if code < 4294967296 {
-        return Term::Number(code as u32);
-    }
-    if code < 8589934592 {
-        return Term::Variable((code - 4294967296) as u8);
-    }
-    Term::Number(0)
+// A reading that puts nothing as what no question has.
+#[derive(Clone, Copy)]
+pub(crate) struct OwnReading {
+    reading: Reading,
+    ghost within: { list_all code_within reading.codes ≡ true },
 }
 
-// A term as a reading puts it.
-fn put_term(reading: Reading, term: Term) -> Term
-    requires { (TermWithin term) × (((x : ℕ) → TermWithin (filling (part_of reading.codes) x))) }
-    ensures { result ≡ put (filling (part_of reading.codes)) term }
-{
-    match term {
-        Term::Number(n) => Term::Number(n),
-        Term::Variable(x) => decoded(reading.codes[x as usize]),
-    }
-}
+impl OwnReading {
+    ghost use Rattle.std.specs.Option.{option_map};
+    ghost use Rattle.question.specs.Lent.{line_of};
+    ghost use Rattle.reports.specs.Made.{own_part};
 
-// The two numbers of a term.
-fn numbers_of(term: Term) -> (u64, u64)
-    ensures { terms_out (term ∷ []) ≡ result.0 ∷ result.1 ∷ [] }
-{
-    match term {
-        Term::Number(n) => (0, u64::from(n)),
-        Term::Variable(x) => (1, u64::from(x)),
+    // The reading that puts nothing yet.
+    pub(crate) fn nothing() -> OwnReading
+        ensures { own_part result ≡ nothing }
+    {
+        OwnReading {
+            reading: Reading::nothing(),
+        }
+    }
+
+    // The reading, made to put a line as another.
+    pub(crate) fn put_line(&self, from: &Line<'_, 16>, to: &Line<'_, 16>) -> Option<OwnReading>
+        ensures { option_map own_part result ≡ match_line (own_part self.now) (line_of from.now) (line_of to.now) }
+    {
+        let reading = self.reading.put_line(from, to)?;
+        Some(OwnReading { reading })
     }
 }
 
-// The line of the t-th report whose cells are the report's row, as a reading puts it.
-pub(crate) fn use_line(t: u64, report: &[u64], reading: Reading) -> [u64; 10]
-    requires checked { (question_refusal report.now ≡ None) × (t < 4294967296) }
-    requires within { (x : ℕ) → TermWithin (filling (part_of reading.codes) x) }
-    ensures made { result ≡ line_out (use_of t (question_in report.now) (part_of reading.codes)) }
-    ensures fits { line_fits 16 result ≡ true }
-    ensures ten { length result ≡ 10 }
-{
-    let n = row_width(report);
-    let mut line = [0; 10];
-    line[0] = t;
-    line[1] = n as u64;
-    for i in 0..n {
-        let (kind, number) = numbers_of(put_term(reading, row_term(report, i)));
-        line[2 + 2 * i] = kind;
-        line[3 + 2 * i] = number;
+// What is not put is put as the number 0.
+impl Put for OwnReading {
+    ghost how = { λ s. filling (part_of s.reading.codes) };
+
+    fn variable(&self, x: u8) -> Term {
+        Term::of_code(self.reading.codes[x as usize]).unwrap_or(Term::Number(0))
     }
-    line
 }

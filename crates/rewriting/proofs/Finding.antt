@@ -130,7 +130,7 @@ always_found reports q ok sq =
     let base : ℕ = fewer.over_lines q.lines in
     (find reports (over_reports reports) base q, find-right reports q (over_reports reports) base ok sq (narrow-over reports) (below-over base q.lines (omega arith)))
 
-all-sound-from : (reports : List Question) → ((r : Question) → In r reports → sound r ≡ true) → all_sound reports ≡ true
+pub all-sound-from : (reports : List Question) → ((r : Question) → In r reports → sound r ≡ true) → all_sound reports ≡ true
 unfolding all_sound
 all-sound-from [] f = refl
 all-sound-from (r ∷ rs) f = and_from _ _ (f r In.here) (all-sound-from rs (λ s i. f s (In.there i)))

@@ -1,31 +1,26 @@
--- The line of a question over reports, as it grows use by use.
-use Rattle.std.proofs.Common.{◌≡◌, ℕ, ◌+◌, ◌≤◌, List, [], ◌∷◌, ◌++◌, length, drop, codes, sym, ap, ◌∙◌, append-nil, arith}
-use Rattle.std.proofs.lemmas.List.{drop_all}
+-- The line of a question over reports, as it grows piece by piece.
+use Rattle.std.proofs.Common.{◌≡◌, ℕ, List, [], ◌∷◌, ◌++◌, codes, sym, ap, ◌∙◌, append-nil, append_assoc}
 use Rattle.question.specs.declared.terms.Term.{Term}
 use Rattle.question.specs.Question.{Line}
 use Rattle.question.specs.Texts.{term_text}
-use Rattle.question.proofs.Adding.{added}
 use Rattle.rewriting.specs.Texts.{terms_text, use_text, more_uses_text, uses_text}
 
-pub terms_more : (ts : List Term) (i : ℕ) (t : Term) (before after whole : List ℕ) → drop i ts ≡ t ∷ drop (i + 1) ts → after ≡ before ++ (codes " " ++ term_text t)
-    → before ++ terms_text (drop i ts) ≡ whole → after ++ terms_text (drop (i + 1) ts) ≡ whole
+pub term-more : (ts : List Term) (t : Term) (left : List Term) (done whole : List ℕ) → ts ≡ t ∷ left → done ++ terms_text ts ≡ whole → (done ++ (codes " " ++ term_text t)) ++ terms_text left ≡ whole
 unfolding terms_text
-terms_more ts i t before after whole d e h = added before after (codes " " ++ term_text t) (terms_text (drop (i + 1) ts)) whole e (ap (λ (l : List Term). before ++ terms_text l) (sym d) ∙ h)
+term-more ts t left done whole e h = append_assoc done (codes " " ++ term_text t) (terms_text left) ∙ ap (λ (l : List Term). done ++ terms_text l) (sym e) ∙ h
 
-pub terms_end : (ts : List Term) (i : ℕ) (before whole : List ℕ) → length ts ≤ i → before ++ terms_text (drop i ts) ≡ whole → before ≡ whole
+pub terms-over : (ts : List Term) (done whole : List ℕ) → ts ≡ [] → done ++ terms_text ts ≡ whole → done ≡ whole
 unfolding terms_text
-terms_end ts i before whole m h = sym (append-nil before) ∙ ap (λ (l : List Term). before ++ terms_text l) (sym (drop_all i ts m)) ∙ h
+terms-over ts done whole e h = sym (append-nil done) ∙ ap (λ (l : List Term). done ++ terms_text l) (sym e) ∙ h
 
-pub uses-more : (ls : List Line) (i : ℕ) (l : Line) (before after whole : List ℕ) → drop i ls ≡ l ∷ drop (i + 1) ls → after ≡ before ++ (codes "," ++ use_text l)
-    → before ++ more_uses_text (drop i ls) ≡ whole → after ++ more_uses_text (drop (i + 1) ls) ≡ whole
+pub use-more : (ls : List Line) (l : Line) (left : List Line) (done whole : List ℕ) → ls ≡ l ∷ left → done ++ more_uses_text ls ≡ whole → (done ++ (codes "," ++ use_text l)) ++ more_uses_text left ≡ whole
 unfolding more_uses_text
-uses-more ls i l before after whole d e h = added before after (codes "," ++ use_text l) (more_uses_text (drop (i + 1) ls)) whole e (ap (λ (x : List Line). before ++ more_uses_text x) (sym d) ∙ h)
+use-more ls l left done whole e h = append_assoc done (codes "," ++ use_text l) (more_uses_text left) ∙ ap (λ (k : List Line). done ++ more_uses_text k) (sym e) ∙ h
 
-pub uses_end : (ls : List Line) (i : ℕ) (before whole : List ℕ) → length ls ≤ i → before ++ more_uses_text (drop i ls) ≡ whole → before ≡ whole
+pub uses-over : (ls : List Line) (done whole : List ℕ) → ls ≡ [] → done ++ more_uses_text ls ≡ whole → done ≡ whole
 unfolding more_uses_text
-uses_end ls i before whole m h = sym (append-nil before) ∙ ap (λ (x : List Line). before ++ more_uses_text x) (sym (drop_all i ls m)) ∙ h
+uses-over ls done whole e h = sym (append-nil done) ∙ ap (λ (k : List Line). done ++ more_uses_text k) (sym e) ∙ h
 
 -- the first use and those behind it
-pub uses-from : (ls : List Line) (l : Line) → ls ≡ l ∷ drop 1 ls → use_text l ++ more_uses_text (drop 1 ls) ≡ uses_text ls
-uses-from [] l e = let z : ◌≡◌ {A = ℕ} 0 1 = cc e in absurd (omega arith)
-uses-from (k ∷ ls) l e = ap (λ (x : Line). use_text x ++ more_uses_text ls) (cc e)
+pub uses-from : (ls : List Line) (l : Line) (left : List Line) → ls ≡ l ∷ left → use_text l ++ more_uses_text left ≡ uses_text ls
+uses-from ls l left e = ap uses_text (sym e)

@@ -1,45 +1,35 @@
 -- What is found among the lines of the widest question, and what it means where it is written.
-use Rattle.std.proofs.Common.{◌≡◌, ℕ, ◌<◌, ◌≤◌, Bool, true, false, cond, ltb, List, ◌++◌, length, get_or, drop, Some, None, Option, sym, refl, ap, ◌∙◌, subst, arith}
+use Rattle.std.proofs.Common.{◌≡◌, ℕ, ◌<◌, ◌≤◌, Bool, true, false, cond, ltb, List, [], ◌∷◌, ◌++◌, map, length, get_or, drop, Some, None, Option, Ok, sym, refl, ap, ◌∙◌, subst, arith}
+use Rattle.std.specs.List.{list_all}
 use Rattle.std.specs.Option.{option_map, option_or}
 use Rattle.std.proofs.lemmas.Bool.Decides.{nat_tests}
 use Rattle.std.proofs.lemmas.Bool.{and_parts}
 use Rattle.question.specs.declared.refusals.Refusal.{Refusal}
 use Rattle.question.specs.declared.refusals.Refusal.TheVariants.{CutShort, NoQuestion, NoReport, NoRoomForQuestion, TooWide}
-use Rattle.question.specs.Refusals.{number}
+use Rattle.question.specs.Refusals.{number, told_number}
 use Rattle.question.specs.Question.{Line, Question, In}
 use Rattle.question.specs.Sound.{sound, Allowed}
-use Rattle.question.specs.Layout.{question_in, question_out}
+use Rattle.question.specs.Layout.{line_in, line_fits, ten_fit, question_in, question_out}
 use Rattle.question.specs.Check.{cut_short, fault, question_refusal}
-use Rattle.question.specs.Reports.{questions_in, reports_in}
-use Rattle.question.proofs.Written.{LineWithin}
+use Rattle.question.specs.Reports.{reports_in}
+use Rattle.question.proofs.Written.{LineWithin, fits-within-cells}
+use Rattle.question.proofs.Fitting.{line_fits-cells}
+use Rattle.question.proofs.Places.{in_head}
 use Rattle.question.proofs.Accepted.{accepted}
 use Rattle.question.proofs.Back.{reads_back, written_accepted}
 use Rattle.minimization.specs.Choices.{by_size}
 use Rattle.reports.specs.Reports.{no_question, all_sound}
-use Rattle.reports.specs.Check.{AreReports, Asked, report_fault, reports_short, reports_refusal}
-use Rattle.reports.specs.Widest.{OwnUse, widest}
+use Rattle.reports.specs.Check.{Asked, report_fault, reports_short, reports_refusal}
+use Rattle.reports.specs.Widest.{widest, IsTooWide}
 use Rattle.reports.proofs.Reporting.{Fit}
 use Rattle.reports.proofs.OwnUses.{use_fit}
 use Rattle.reports.proofs.Fewer.{few-uses}
-use Rattle.reports.proofs.Lent.{length-reports_in, are_reports, reports_sound}
-use Rattle.reports.proofs.Asking.{asked}
 use Rattle.reports.proofs.Sorting.{widest_made}
 use Rattle.rewriting.specs.declared.reply.Reply.{Reply}
+use Rattle.rewriting.specs.declared.reply.Reply.TheVariants.{Refused}
 use Rattle.rewriting.specs.Found.{Found, First, over_lines, will_do, choose, find}
-use Rattle.rewriting.specs.Answer.{find_refusal, told_by, left_by, answer_of, Numbered, Stands, Meant}
-use Rattle.rewriting.proofs.Finding.{find-allowed}
-
--- the reports as they are counted, and the widest question over them
-pub counted : (n : ℕ) (reports : List ℕ) → n ≡ length (reports_in reports) → questions_in n (drop 1 reports) ≡ reports_in reports
-unfolding reports_in
-counted n reports e = ap (λ (k : ℕ). questions_in k (drop 1 reports)) (e ∙ length-reports_in reports)
-
-pub kept-widest : (n : ℕ) (reports : List ℕ) (q : Question) (ls : List Line) → n ≡ length (reports_in reports) → ls ≡ (widest (questions_in n (drop 1 reports)) q).lines → ls ≡ (widest (reports_in reports) q).lines
-kept-widest n reports q ls e h = h ∙ ap (λ (rs : List Question). (widest rs q).lines) (counted n reports e)
-
--- each line of the widest question is a use that a report has on the question's own lines
-pub own-uses : (reports : List ℕ) (q : Question) (ls : List Line) → AreReports reports → ls ≡ (widest (reports_in reports) q).lines → (l : Line) → In l ls → OwnUse (reports_in reports) q l
-own-uses reports q ls a e l i = (widest_made (reports_in reports) q (reports_sound reports a)).0.right l (subst (λ (ks : List Line). In l ks) e i)
+use Rattle.rewriting.specs.Answer.{find_refusal, find_says, find_leaves, reply_of, told_by, left_by, answer_of, Numbered, Stands, Meant}
+use Rattle.rewriting.proofs.Finding.{all-sound-from, find-allowed}
 
 -- what is found, by the first choice that will do
 pub found-by : (rs : List Question) (q : Question) (ws : List Line) (most : ℕ) (o : Option (List Line)) → ws ≡ (widest rs q).lines → most ≡ length q.lines
@@ -75,13 +65,7 @@ refused_not question reports out h r w =
 
 -- a question and reports are turned away by number 3 at most
 abbrev Low : Option Refusal → Type 0
-Low o = (e : Refusal) → o ≡ Some e → number e ≤ 3
-
-low-some : (x : Refusal) → number x ≤ 3 → Low (Some x)
-low-some x h e p = let z : x ≡ e = cc p in subst (λ (y : Refusal). number y ≤ 3) z h
-
-low-none : Low None
-low-none e p = let z : ◌≡◌ {A = ℕ} 0 1 = cc p in absurd (omega arith)
+Low o = told_number o ≤ 3
 
 low_or : (a b : Option Refusal) → Low a → Low b → Low (option_or a b)
 low_or None b f g = g
@@ -92,32 +76,33 @@ low-cond true u v f g = f
 low-cond false u v f g = g
 
 low_mapped : (f : ℕ → Refusal) (o : Option ℕ) → ((n : ℕ) → number (f n) ≤ 3) → Low (option_map f o)
-low_mapped f None h = low-none
-low_mapped f (Some n) h = low-some (f n) (h n)
+low_mapped f None h = omega arith
+low_mapped f (Some n) h = h n
 
-low_cut : (xs : List ℕ) → Low (cut_short xs)
-low_cut xs = low-cond _ _ _ (low-some (CutShort (length xs)) (omega arith)) low-none
+low-cut : (xs : List ℕ) → Low (cut_short xs)
+low-cut xs = low-cond _ (Some (CutShort (length xs))) None (omega arith) (omega arith)
 
 low-short : (xs : List ℕ) → Low (reports_short xs)
 unfolding reports_short
-low-short xs = low-cond _ _ _ low-none (low-some (CutShort (length xs)) (omega arith))
+low-short xs = low-cond _ None (Some (CutShort (length xs))) (omega arith) (omega arith)
 
 low-question : (xs : List ℕ) → Low (question_refusal xs)
 unfolding question_refusal
-low-question xs = low-cond _ _ _ (low-some (CutShort (length xs)) (omega arith)) (low_mapped NoQuestion (fault xs) (λ n. omega arith))
+low-question xs = low-cond _ (Some (CutShort (length xs))) _ (omega arith) (low_mapped NoQuestion (fault xs) (λ n. omega arith))
 
 low_reports : (question reports : List ℕ) → Low (reports_refusal question reports)
 unfolding reports_refusal
 low_reports question reports =
-    low_or (cut_short question) _ (low_cut question) (low_or (reports_short reports) _ (low-short reports)
+    low_or (cut_short question) _ (low-cut question) (low_or (reports_short reports) _ (low-short reports)
     (low_or (question_refusal question) _ (low-question question) (low_mapped NoReport (report_fault question reports (get_or reports 0 0) 0) (λ n. omega arith))))
 
 pub not_wide : (question reports : List ℕ) (e : Refusal) → reports_refusal question reports ≡ Some e → e ≡ TooWide → ⊥
-not_wide question reports e h p = let z : 5 ≤ 3 = subst (λ (x : Refusal). number x ≤ 3) p (low_reports question reports e h) in omega arith
+not_wide question reports e h p = let z : 5 ≤ 3 = subst (λ (o : Option Refusal). told_number o ≤ 3) (h ∙ ap Some p) (low_reports question reports) in omega arith
 
 -- what is found may be asked
-found-allowed : (rs : List Question) (q p : Question) → Asked q rs → all_sound rs ≡ true → ((l : Line) → In l (widest rs q).lines → LineWithin l) → First rs q p → Found rs q (Some p) → Allowed p
-found-allowed rs q p a ok within first (Found.by right least) =
+found-allowed : (rs : List Question) (q p : Question) → Asked q rs → ((l : Line) → In l (widest rs q).lines → LineWithin l) → First rs q p → Found rs q (Some p) → Allowed p
+found-allowed rs q p a within first (Found.by right least) =
+    let ok : all_sound rs ≡ true = all-sound-from rs (λ r i. (a.reports_allowed r i).is_sound) in
     let few = few-uses rs q p a.allowed.is_sound right in
     let short : length p.lines ≤ length few.0.lines = least few.0 few.1 in
     let fit : (l : Line) → In l p.lines → Fit rs l = λ l i. use_fit rs q l ((widest_made rs q ok).0.right l (first.choice.from l i)) in
@@ -131,17 +116,16 @@ found-allowed rs q p a ok within first (Found.by right least) =
     }
 
 -- where it is written, it stands
-stands : (question reports more : List ℕ) (p : Question) → reports_refusal question reports ≡ None → ((l : Line) → In l (widest (reports_in reports) (question_in question)).lines → LineWithin l)
+stands : (question reports more : List ℕ) (p : Question) → Asked (question_in question) (reports_in reports) → ((l : Line) → In l (widest (reports_in reports) (question_in question)).lines → LineWithin l)
     → find (reports_in reports) 16 16 (question_in question) ≡ Some p → Stands question reports (question_out p ++ more) (length p.lines)
-stands question reports more p e within is =
+stands question reports more p a within is =
     let q : Question = question_in question in
     let rs : List Question = reports_in reports in
     let out : List ℕ = question_out p ++ more in
-    let a : Asked q rs = asked question reports e in
     let made = find-allowed rs q a.reports_allowed a.allowed in
     let found : Found rs q (Some p) = subst (λ (o : Option Question). Found rs q o) is made.0 in
     let first : First rs q p = made.1 p is in
-    let b : Allowed p = found-allowed rs q p a (reports_sound reports (are_reports question reports e)) within first found in
+    let b : Allowed p = found-allowed rs q p a within first found in
     let back : question_in out ≡ p = reads_back p (record { row = b.row.few; lines = b.few; cells = λ l i. (b.cells l i).few }) more in
     record {
       asked = a;
@@ -152,15 +136,40 @@ stands question reports more p e within is =
       count = ap (λ (o : Question). length o.lines) (sym back);
     }
 
-pub meant-found : (question reports out after : List ℕ) (r : Reply) (o : Option Question) → reports_refusal question reports ≡ None → ((l : Line) → In l (widest (reports_in reports) (question_in question)).lines → LineWithin l)
-    → find (reports_in reports) 16 16 (question_in question) ≡ o → r ≡ told_by o → after ≡ left_by o out → Meant question reports out after r
+meant-found : (question reports out : List ℕ) (o : Option Question) → Asked (question_in question) (reports_in reports)
+    → ((l : Line) → In l (widest (reports_in reports) (question_in question)).lines → LineWithin l)
+    → find (reports_in reports) 16 16 (question_in question) ≡ o → Meant question reports out (left_by o out) (told_by o)
 unfolding Meant
-meant-found question reports out after r None e within is told left =
-    let a = asked question reports e in
-    let made = find-allowed (reports_in reports) (question_in question) a.reports_allowed a.allowed in
-    subst (λ (x : Reply). Meant question reports out after x) (sym told) (record { same = left; asked = a; none = subst (λ (o : Option Question). Found (reports_in reports) (question_in question) o) is made.0 })
-meant-found question reports out after r (Some p) e within is told left =
-    subst (λ (x : Reply). Meant question reports out after x) (sym told) (subst (λ (ys : List ℕ). Stands question reports ys (length p.lines)) (sym left) (stands question reports (drop 50 out) p e within is))
+meant-found question reports out None a within is = record { same = refl; asked = a; none = subst (λ (o : Option Question). Found (reports_in reports) (question_in question) o) is (find-allowed (reports_in reports) (question_in question) a.reports_allowed a.allowed).0 }
+meant-found question reports out (Some p) a within is = stands question reports (drop 50 out) p a within is
+
+-- what holds where a call is turned away, and where it is not
+pub turned-away : (question reports out : List ℕ) (e : Refusal) → find_refusal question reports out ≡ Some e → (e ≡ TooWide → IsTooWide (reports_in reports) (question_in question))
+    → (Refused e ≡ find_says question reports out) × (out ≡ find_leaves question reports out) × Meant question reports out out (Refused e)
+unfolding find_says find_leaves Meant
+turned-away question reports out e f w = (rw f, rw f, record { same = refl; why = f; wide = w })
+
+counted : (o : Option Question) → reply_of (Ok (option_map (λ p. length p.lines) o)) ≡ told_by o
+counted None = refl
+counted (Some p) = refl
+
+pub answered : (question reports out after : List ℕ) (uses : Option ℕ) → find_refusal question reports out ≡ None → Asked (question_in question) (reports_in reports)
+    → ((l : Line) → In l (widest (reports_in reports) (question_in question)).lines → LineWithin l)
+    → uses ≡ option_map (λ p. length p.lines) (find (reports_in reports) 16 16 (question_in question)) → after ≡ left_by (find (reports_in reports) 16 16 (question_in question)) out
+    → (reply_of (Ok uses) ≡ find_says question reports out) × (after ≡ find_leaves question reports out) × Meant question reports out after (reply_of (Ok uses))
+unfolding find_says find_leaves
+answered question reports out after uses f a within u w =
+    let p : Option Question = find (reports_in reports) 16 16 (question_in question) in
+    let told : reply_of (Ok uses) ≡ told_by p = ap (λ (n : Option ℕ). reply_of (Ok n)) u ∙ counted p in
+    (rw f told, rw f w, rw (told, w) (meant-found question reports out p a within refl))
+
+-- lines of ten numbers each that fit are within the limits
+pub tens-within : (xs : List (List ℕ)) → list_all (ten_fit 16) xs ≡ true → (l : Line) → In l (map line_in xs) → LineWithin l
+tens-within [] f l i = elim i [ ]
+tens-within (x ∷ xs) f l i =
+    let a = and_parts _ _ f in
+    let f : line_fits 16 x ≡ true = (and_parts _ _ a.0).1 in
+    in_head LineWithin (record { table = (line_fits-cells 16 x f).0; cells = fits-within-cells x f }) (tens-within xs a.1 l) i
 
 -- the number and the values of an answer
 pub numbered : (o : Option Refusal) (found : Option Question) (r : Reply) → r ≡ answer_of o found → Numbered r o found

@@ -1,5 +1,5 @@
 -- What finding the fewest uses answers and leaves, case by case, and what that means. Assumes nothing: these are definitions.
-use Rattle.std.specs.Prelude.{◌≡◌, ℕ, cond, List, [], ◌∷◌, ◌++◌, length, drop, replicate, Some, None, Option, nat_lt}
+use Rattle.std.specs.Prelude.{◌≡◌, ℕ, cond, List, [], ◌∷◌, ◌++◌, length, drop, replicate, Some, None, Option, Ok, Err, Result, nat_lt}
 use Rattle.std.specs.Option.{option_or}
 use Rattle.question.specs.declared.refusals.Refusal.{Refusal}
 use Rattle.question.specs.declared.refusals.Refusal.TheVariants.{NoRoomForQuestion, TooWide}
@@ -38,6 +38,12 @@ wide_refusal reports q = cond (nat_lt 32 (length (widest reports q).lines)) (Som
 -- the first refusal that applies: as the question and the reports are turned away (1, 1, 2, 3), then for want of room (4), then for too many uses (5)
 unfoldable pub find_refusal : (question reports out : List ℕ) → Option Refusal
 find_refusal question reports out = option_or (reports_refusal question reports) (option_or (room_refusal out) (wide_refusal (reports_in reports) (question_in question)))
+
+-- the answer, as uses that are found or none, or a refusal
+abbrev pub reply_of : Result (Option ℕ) Refusal → Reply
+reply_of (Ok None) = Impossible
+reply_of (Ok (Some n)) = By n
+reply_of (Err e) = Refused e
 
 -- what is answered where a question is found or none, and what then lies in out: it, in the first fifty numbers
 abbrev pub told_by : Option Question → Reply

@@ -1,67 +1,69 @@
 // The fewest uses of reports that answer a question, found and written down.
-ghost use Rattle.std.specs.Prelude.{◌≡◌, ◌≤◌, false, length, is_ok, None, MatchResult};
+ghost use Rattle.std.specs.Prelude.{◌≡◌, ◌≤◌, length};
+ghost use Rattle.std.specs.Option.{option_map};
 ghost use Rattle.question.specs.Layout.{question_in};
 ghost use Rattle.question.specs.Reports.{reports_in};
-ghost use Rattle.question.specs.Check.{question_refusal};
-ghost use Rattle.reports.specs.Check.{AreReports};
-ghost use Rattle.reports.specs.Widest.{OwnUse, widest};
+ghost use Rattle.question.specs.Lent.{question_of};
+ghost use Rattle.reports.specs.Widest.{widest};
+ghost use Rattle.reports.specs.Lent.{reports_of};
 ghost use Rattle.reports.specs.Uses.{lines_kept};
 ghost use Rattle.rewriting.specs.Found.{will_do, find};
-ghost use Rattle.rewriting.specs.Answer.{told_by, left_by, find_refusal, find_says, find_leaves, Numbered, Meant};
+ghost use Rattle.rewriting.specs.Answer.{reply_of, left_by, find_refusal, find_says, find_leaves, Numbered, Meant};
 
 use super::reply::Reply;
 use containment::reads_into;
-use minimization::{Test, first_of_sizes};
-use question::{Refusal, line_count, write_question};
-use reports::{Uses, check_reports, expand_uses, widest};
+use minimization::{Candidates, Test};
+use question::{Lines, Question, Refusal};
+use reports::{Reports, Uses, expand_uses, widest};
 
 // Whether some uses of the reports will do: the question can be read into what they stand for.
 #[derive(Clone, Copy)]
-struct WillDo<'a, 'b> {
-    question: &'a [u64],
-    reports: &'b [u64],
+struct WillDo<'q, 'r> {
+    question: Question<'q>,
+    reports: Reports<'r>,
 }
 
-impl<'a, 'b> Test for WillDo<'a, 'b> {
-    ghost decides = { λ s. will_do (reports_in s.reports.now) 16 16 (question_in s.question.now) };
+impl<'q, 'r> Test for WillDo<'q, 'r> {
+    ghost decides = { λ s. will_do (reports_of s.reports) 16 16 (question_of s.question) };
 
-    ghost ready = { λ s. (question_refusal s.question.now ≡ None) × AreReports s.reports.now };
-
-    ghost takes = { λ s. OwnUse (reports_in s.reports.now) (question_in s.question.now) };
-
-    fn passes(&self, lines: &[u64], n: usize) -> bool {
-        let mut room = [0; 160];
-        let count = expand_uses(self.reports, lines, n, &mut room);
-        reads_into(self.question, &room, count)
+    fn passes(&self, lines: &Lines<'_, 16>) -> bool {
+        let expanded = expand_uses(&self.reports, lines);
+        let put_in = expanded.lines();
+        reads_into(&self.question, &put_in)
     }
 }
 
-// Writes the first of the fewest of the uses that will do to the front of out, and counts them.
-fn write_fewest(question: &[u64], reports: &[u64], uses: &Uses, out: &mut [u64]) -> Reply
-    requires checked { (question_refusal question.now ≡ None) × (AreReports reports.now) }
-    requires wide { lines_kept uses.now ≡ (widest (reports_in reports.now) (question_in question.now)).lines }
+// Writes the question over the first of the fewest of the uses that will do to the front of out, and counts them; none if none will do.
+fn write_fewest(test: &WillDo<'_, '_>, uses: &Uses, out: &mut [u64]) -> Option<u64>
+    requires wide { lines_kept uses.now ≡ (widest (reports_of test.now.reports) (question_of test.now.question)).lines }
     requires room { 50 ≤ length out.old }
-    ensures told { result ≡ told_by (find (reports_in reports.now) 16 16 (question_in question.now)) }
-    ensures written { out.new ≡ left_by (find (reports_in reports.now) 16 16 (question_in question.now)) out.old }
+    ensures told { result ≡ option_map (λ p. length p.lines) (find (reports_of test.now.reports) 16 16 (question_of test.now.question)) }
+    ensures written { out.new ≡ left_by (find (reports_of test.now.reports) 16 16 (question_of test.now.question)) out.old }
 {
-    let test = WillDo { question, reports };
-    let most = line_count(question);
-    let Some(chosen) = first_of_sizes(&test, &uses.lines, uses.count, most) else {
-        return Reply::Impossible;
+    let question = test.question;
+    let candidates = Candidates {
+        test: *test,
+        lines: uses.lines(),
     };
-    write_question(question, &chosen.lines, chosen.count, out);
-    Reply::By(chosen.count as u64)
+    let most = question.lines().count_left();
+    let chosen = candidates.first_of_sizes(most)?;
+    let lines = chosen.lines();
+    question.write_with(&lines, out);
+    Some(lines.count_left() as u64)
 }
 
-// The refusal of a check that failed.
-fn refused_by<T: Copy>(check: Result<T, Refusal>) -> Reply
-    requires { is_ok check ≡ false }
-    ensures { MatchResult check (λ _. ⊥) (λ e. result ≡ Reply.Refused e) }
+// How many uses of the reports answer the question at least, if any do, or how the call is turned away; it writes the question over the reports that they make.
+fn found(question: &[u64], reports: &[u64], out: &mut [u64]) -> Result<Option<u64>, Refusal>
+    ensures told { reply_of result ≡ find_says question.now reports.now out.old }
+    ensures written { out.new ≡ find_leaves question.now reports.now out.old }
+    ensures meant { Meant question.now reports.now out.old out.new (reply_of result) }
 {
-    match check {
-        Ok(_) => unreachable(),
-        Err(refusal) => Reply::Refused(refusal),
+    let (question, reports) = Reports::checked(question, reports)?;
+    if out.len() < 50 {
+        return Err(Refusal::NoRoomForQuestion(out.len() as u64));
     }
+    let uses = widest(&question, &reports)?;
+    Ok(write_fewest(&WillDo { question, reports }, &uses, out))
 }
 
 // Finds the fewest uses of the reports that answer the question, and of those the first, and writes the question over the reports that they make.
@@ -71,17 +73,5 @@ pub fn find(question: &[u64], reports: &[u64], out: &mut [u64]) -> Reply
     ensures written { out.new ≡ find_leaves question.now reports.now out.old }
     ensures meant { Meant question.now reports.now out.old out.new result }
 {
-    let check = check_reports(question, reports);
-    let Ok(count) = check else {
-        return refused_by(check);
-    };
-    let room = out.len() >= 50;
-    if !room {
-        return Reply::Refused(Refusal::NoRoomForQuestion(out.len() as u64));
-    }
-    let wide = widest(question, reports, count);
-    let Ok(uses) = wide else {
-        return refused_by(wide);
-    };
-    write_fewest(question, reports, &uses, out)
+    Reply::from(found(question, reports, out))
 }

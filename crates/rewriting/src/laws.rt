@@ -2,56 +2,38 @@
 ghost use Rattle.rewriting.specs.Laws.{AlwaysFound, FindRight, FindFirst, FindAllowed, WillDoExact, FoundByWidest, MoreReports};
 ghost use Rattle.rewriting.specs.Examples.{AllHold, Fourth};
 
-pub fn always_found() -> u8
+pub fn always_found()
     ensures { AlwaysFound }
-{
-    0
-}
+{}
 
-pub fn find_is_right() -> u8
+pub fn find_is_right()
     ensures { FindRight }
-{
-    0
-}
+{}
 
-pub fn find_is_first() -> u8
+pub fn find_is_first()
     ensures { FindFirst }
-{
-    0
-}
+{}
 
-pub fn find_within_the_limits() -> u8
+pub fn find_within_the_limits()
     ensures { FindAllowed }
-{
-    0
-}
+{}
 
-pub fn one_reading_decides() -> u8
+pub fn one_reading_decides()
     ensures { WillDoExact }
-{
-    0
-}
+{}
 
-pub fn the_widest_tells_if_found() -> u8
+pub fn the_widest_tells_if_found()
     ensures { FoundByWidest }
-{
-    0
-}
+{}
 
-pub fn more_reports_never_need_more() -> u8
+pub fn more_reports_never_need_more()
     ensures { MoreReports }
-{
-    0
-}
+{}
 
-pub fn worked_table_holds() -> u8
+pub fn worked_table_holds()
     ensures { AllHold }
-{
-    0
-}
+{}
 
-pub fn worked_fourth_holds() -> u8
+pub fn worked_fourth_holds()
     ensures { Fourth }
-{
-    0
-}
+{}

@@ -1,70 +1,51 @@
 // The line that is printed for a request: by 2: R0 x0 x2, R1 x0 x3.
-ghost use Rattle.std.specs.Prelude.{◌≡◌, ℕ, true, ◌++◌, length, drop, IfOk, None, string_bytes, OnOk};
-ghost use Rattle.question.specs.Layout.{line_in, line_fits, question_in};
-ghost use Rattle.question.specs.Check.{question_refusal};
-ghost use Rattle.rewriting.specs.declared.reply.Reply.TheVariants.{By};
-ghost use Rattle.rewriting.specs.Texts.{terms_text, use_text, more_uses_text, found_text, reply_text};
+ghost use Rattle.std.specs.Prelude.{◌≡◌, IfOk, Some, string_bytes};
+ghost use Rattle.question.specs.Lent.{line_of, question_of};
+ghost use Rattle.rewriting.specs.Texts.{use_text, found_text};
 ghost use Rattle.rewriting.specs.Answer.{printed};
 
 use super::fewest::find;
 use super::reply::Reply;
-use question::{line_at, line_count, line_term, table, width};
+use question::{Line, Question};
 use std::alloc::{AllocError, Global};
+use std::fmt;
 
-// Adds the terms of a line.
-fn write_terms(text: &mut String, line: &[u64]) -> Result<(), AllocError>
-    requires { (length line.now ≡ 10) × (line_fits 16 line.now ≡ true) }
-    ensures { OnOk result (string_bytes text.new ≡ string_bytes text.old ++ terms_text (line_in line.now).cells) }
-{
-    for i in 0..width(line) {
-        let term = line_term(line, i);
-        write!(text, " {term}")?;
+// A use of a report, behind a blank: its number and its terms.
+#[derive(Clone, Copy)]
+struct Use<'a>(Line<'a, 16>);
+
+impl fmt::Display for Use<'_> {
+    ghost output = { λ u. Some (use_text (line_of u.0)) };
+
+    fn fmt<W: fmt::Write>(&self, f: &mut fmt::Formatter<W>) -> fmt::Result {
+        let report = self.0.table();
+        write!(f, " R{report}")?;
+        for term in self.0.terms() {
+            write!(f, " {term}")?;
+        }
+        Ok(())
     }
-    Ok(())
 }
 
-// Adds a use of a report.
-fn write_use(text: &mut String, line: &[u64]) -> Result<(), AllocError>
-    requires { (length line.now ≡ 10) × (line_fits 16 line.now ≡ true) }
-    ensures { OnOk result (string_bytes text.new ≡ string_bytes text.old ++ use_text (line_in line.now)) }
-{
-    let report = table(line);
-    write!(text, " R{report}")?;
-    write_terms(text, line)
-}
+// A question over reports as it is printed: how many uses, and each.
+#[derive(Clone, Copy)]
+struct OverReports<'a>(Question<'a>);
 
-// Adds the uses behind the first.
-fn write_more_uses(text: &mut String, found: &[u64]) -> Result<(), AllocError>
-    requires { question_refusal found.now ≡ None }
-    ensures { OnOk result (string_bytes text.new ≡ string_bytes text.old ++ more_uses_text (drop 1 (question_in found.now).lines)) }
-{
-    for i in 1..line_count(found) {
-        write!(text, ",")?;
-        write_use(text, line_at(found, i))?;
-    }
-    Ok(())
-}
+impl fmt::Display for OverReports<'_> {
+    ghost output = { λ p. Some (found_text (question_of p.0)) };
 
-// Adds a question over reports.
-fn write_found(text: &mut String, found: &[u64]) -> Result<(), AllocError>
-    requires { question_refusal found.now ≡ None }
-    ensures { OnOk result (string_bytes text.new ≡ string_bytes text.old ++ found_text (question_in found.now)) }
-{
-    let uses = line_count(found);
-    write!(text, "by {uses}:")?;
-    write_use(text, line_at(found, 0))?;
-    write_more_uses(text, found)
-}
-
-// Adds what is printed for an answer.
-fn write_reply(text: &mut String, reply: Reply, found: &[u64]) -> Result<(), AllocError>
-    requires { (n : ℕ) → reply ≡ By n → question_refusal found.now ≡ None }
-    ensures { OnOk result (string_bytes text.new ≡ string_bytes text.old ++ reply_text reply (question_in found.now)) }
-{
-    match reply {
-        Reply::By(_) => write_found(text, found),
-        Reply::Impossible => write!(text, "none"),
-        Reply::Refused(refusal) => write!(text, "{refusal}"),
+    fn fmt<W: fmt::Write>(&self, f: &mut fmt::Formatter<W>) -> fmt::Result {
+        let mut uses = self.0.lines();
+        let count = uses.count_left();
+        write!(f, "by {count}:")?;
+        let Some(first) = uses.next() else {
+            return Ok(());
+        };
+        write!(f, "{}", Use(first))?;
+        for more in uses {
+            write!(f, ",{}", Use(more))?;
+        }
+        Ok(())
     }
 }
 
@@ -73,8 +54,12 @@ pub fn found_line(heap: Global, question: &[u64], reports: &[u64]) -> Result<Str
     ensures { IfOk result (λ text. string_bytes text ≡ printed question.now reports.now) }
 {
     let mut found = [0; 50];
-    let reply = find(question, reports, &mut found);
-    let mut text = String::new(heap);
-    write_reply(&mut text, reply, &found)?;
-    Ok(text)
+    match find(question, reports, &mut found) {
+        Reply::By(_) => {
+            let over_reports = OverReports(Question::of_checked(&found));
+            format!(in heap; "{over_reports}")
+        }
+        Reply::Impossible => format!(in heap; "none"),
+        Reply::Refused(refusal) => format!(in heap; "{refusal}"),
+    }
 }

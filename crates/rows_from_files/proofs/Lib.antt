@@ -1,5 +1,2 @@
-pub mod Lending
 pub mod Listed
-pub mod Held
 pub mod Told
-pub mod Naming

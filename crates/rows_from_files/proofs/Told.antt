@@ -1,13 +1,12 @@
 -- The text of an answer says what the answer means.
-use Rattle.std.proofs.Common.{◌≡◌, ℕ, ◌+◌, ◌*◌, ◌<◌, true, ◌⊎◌, List, [], ◌++◌, length, get_or, drop, replicate, sym, refl, ap, ◌∙◌, subst, inl, inr, append-nil}
+use Rattle.std.proofs.Common.{◌≡◌, ℕ, ◌+◌, ◌*◌, ◌<◌, true, ◌⊎◌, List, [], ◌++◌, length, get_or, drop, replicate, sym, refl, ap, ◌∙◌, subst, inl, inr, append-nil, Ok, Err, Result}
+use Rattle.question.specs.declared.refusals.Refusal.{Refusal}
 use Rattle.question.specs.declared.refusals.Refusal.TheVariants.{CutShort, NoQuestion, NoReport, NoRoomForQuestion, TooWide, NoRoomForRow, TableTooLarge, NoRoomForTables, NoMemory}
 use Rattle.question.specs.Question.{Question, Row, Base, In, Answers}
 use Rattle.question.specs.Layout.{question_in}
 use Rattle.question.specs.Tables.{rows_in, tables_in}
 use Rattle.question.proofs.Decoding.{length-terms_in}
 use Rattle.wire.specs.Tables.{table_text}
-use Rattle.answer.specs.declared.reply.Answer.{Answer}
-use Rattle.answer.specs.declared.reply.Answer.TheVariants.{Rows, Refused}
 use Rattle.answer.specs.Answered.{Lower, Among, BehindAll, FirstRows, AllRows, NoRoom, Meant}
 use Rattle.rows_from_files.specs.Rooms.{largest, no_room, InRoom}
 use Rattle.rows_from_files.specs.Printed.{refusal_text, answer_text, RowsInOrder, AllPrinted, FirstPrinted, Printed}
@@ -51,19 +50,19 @@ module _ (b : Base) (q : Question) (before out : List ℕ) (n : ℕ) where
   }
 
 -- what is printed for an answer in its room
-pub told : (question tables out : List ℕ) (a : Answer) (text : List ℕ) → InRoom question tables out a → text ≡ answer_text (get_or question 0 0) out a → Printed question tables text
+pub told : (question tables out : List ℕ) (a : Result ℕ Refusal) (text : List ℕ) → InRoom question tables out a → text ≡ answer_text (get_or question 0 0) out a → Printed question tables text
 unfolding Meant table_text rows_in
 told question tables out a text h e = by-case a h.meant h.room (rw (row_wide question) e)
   where
-    by-case : (a : Answer) → Meant question tables (replicate (length out) 0) out a → (no_room a ≡ true → length out ≡ largest)
+    by-case : (a : Result ℕ Refusal) → Meant question tables (replicate (length out) 0) out a → (no_room a ≡ true → length out ≡ largest)
         → text ≡ answer_text (length (question_in question).row) out a → Printed question tables text
-    by-case (Rows n) m l e = Printed.all_rows m.0 (all_told (tables_in tables) (question_in question) (replicate (length out) 0) out n m.1 text e)
-    by-case (Refused (NoRoomForRow n)) m l e = Printed.first_rows m.0 (first-told (tables_in tables) (question_in question) (replicate (length out) 0) out n m.1 (l refl) text e)
-    by-case (Refused (CutShort n)) m l e = Printed.turned_away (CutShort n) m.0 e
-    by-case (Refused (NoQuestion n)) m l e = Printed.turned_away (NoQuestion n) m.0 e
-    by-case (Refused (TableTooLarge n)) m l e = Printed.turned_away (TableTooLarge n) m.0 e
-    by-case (Refused NoMemory) m l e = Printed.no_memory m.0 e
-    by-case (Refused (NoReport n)) m l e = absurd m
-    by-case (Refused (NoRoomForQuestion n)) m l e = absurd m
-    by-case (Refused TooWide) m l e = absurd m
-    by-case (Refused (NoRoomForTables n)) m l e = absurd m
+    by-case (Ok n) m l e = Printed.all_rows m.0 (all_told (tables_in tables) (question_in question) (replicate (length out) 0) out n m.1 text e)
+    by-case (Err (NoRoomForRow n)) m l e = Printed.first_rows m.0 (first-told (tables_in tables) (question_in question) (replicate (length out) 0) out n m.1 (l refl) text e)
+    by-case (Err (CutShort n)) m l e = Printed.turned_away (CutShort n) m.0 e
+    by-case (Err (NoQuestion n)) m l e = Printed.turned_away (NoQuestion n) m.0 e
+    by-case (Err (TableTooLarge n)) m l e = Printed.turned_away (TableTooLarge n) m.0 e
+    by-case (Err NoMemory) m l e = Printed.no_memory m.0 e
+    by-case (Err (NoReport n)) m l e = absurd m
+    by-case (Err (NoRoomForQuestion n)) m l e = absurd m
+    by-case (Err TooWide) m l e = absurd m
+    by-case (Err (NoRoomForTables n)) m l e = absurd m

@@ -1,4 +1,2 @@
-pub mod Arguments
-pub mod Forms
 pub mod Printed
 pub mod Rooms

@@ -1,5 +1,5 @@
 -- What the program prints for a question and tables: the rows answered, or a refusal. Assumes nothing: these are definitions.
-use Rattle.std.specs.Prelude.{◌≡◌, ℕ, ◌+◌, ◌*◌, ◌<◌, ◌⊎◌, List, [], ◌∷◌, ◌++◌, length, Some, None, Option}
+use Rattle.std.specs.Prelude.{◌≡◌, ℕ, ◌+◌, ◌*◌, ◌<◌, ◌⊎◌, List, [], ◌∷◌, ◌++◌, length, Some, None, Option, Ok, Err, Result}
 use Rattle.question.specs.declared.refusals.Refusal.{Refusal}
 use Rattle.question.specs.declared.refusals.Refusal.TheVariants.{CutShort, NoQuestion, NoReport, NoRoomForQuestion, TooWide, NoRoomForRow, TableTooLarge, NoRoomForTables, NoMemory}
 use Rattle.question.specs.Question.{Question, Row, Base, In, Answers}
@@ -7,8 +7,6 @@ use Rattle.question.specs.Layout.{question_in}
 use Rattle.question.specs.Refusals.{refusal_line}
 use Rattle.question.specs.Tables.{rows_in, tables_in}
 use Rattle.wire.specs.Tables.{table_text}
-use Rattle.answer.specs.declared.reply.Answer.{Answer}
-use Rattle.answer.specs.declared.reply.Answer.TheVariants.{Rows, Refused}
 use Rattle.answer.specs.Answered.{Lower, answer_refusal}
 use Rattle.rows_from_files.specs.Rooms.{largest}
 
@@ -17,24 +15,24 @@ abbrev pub refusal_text : Refusal → List ℕ
 refusal_text e = refusal_line e ++ (10 ∷ [])
 
 -- how many rows stand in the room
-abbrev pub standing : Answer → ℕ
-standing (Rows n) = n
-standing (Refused (CutShort n)) = 0
-standing (Refused (NoQuestion n)) = 0
-standing (Refused (NoReport n)) = 0
-standing (Refused (NoRoomForQuestion n)) = 0
-standing (Refused TooWide) = 0
-standing (Refused (NoRoomForRow n)) = n
-standing (Refused (TableTooLarge n)) = 0
-standing (Refused (NoRoomForTables n)) = 0
-standing (Refused NoMemory) = 0
+abbrev pub standing : Result ℕ Refusal → ℕ
+standing (Ok n) = n
+standing (Err (CutShort n)) = 0
+standing (Err (NoQuestion n)) = 0
+standing (Err (NoReport n)) = 0
+standing (Err (NoRoomForQuestion n)) = 0
+standing (Err TooWide) = 0
+standing (Err (NoRoomForRow n)) = n
+standing (Err (TableTooLarge n)) = 0
+standing (Err (NoRoomForTables n)) = 0
+standing (Err NoMemory) = 0
 
-abbrev pub end_text : Answer → List ℕ
-end_text (Rows n) = []
-end_text (Refused e) = refusal_text e
+abbrev pub end_text : Result ℕ Refusal → List ℕ
+end_text (Ok n) = []
+end_text (Err e) = refusal_text e
 
 -- the rows that stand, of so many columns, and behind them the refusal if there is one
-abbrev pub answer_text : (columns : ℕ) → List ℕ → Answer → List ℕ
+abbrev pub answer_text : (columns : ℕ) → List ℕ → Result ℕ Refusal → List ℕ
 answer_text columns out a = table_text (rows_in (standing a) columns out) ++ end_text a
 
 -- each row comes before all behind it

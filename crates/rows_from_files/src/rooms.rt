@@ -3,25 +3,22 @@ ghost use Rattle.std.specs.Prelude.{◌≡◌, length, replicate, IfOk};
 ghost use Rattle.answer.specs.Answered.{Meant};
 ghost use Rattle.rows_from_files.specs.Rooms.{no_room, InRoom};
 
-use answer::{Answer, answer};
+use answer::answer;
 use question::Refusal;
 use std::alloc::{AllocError, Global};
 
 // An answer and the room that its rows stand in.
 #[derive(Drop)]
 pub struct Answered {
-    pub answer: Answer,
+    pub answer: Result<u64, Refusal>,
     pub out: Vec<u64>,
 }
 
 // Whether there was no room for the next row.
-fn no_room(answer: Answer) -> bool
+fn no_room(answer: Result<u64, Refusal>) -> bool
     ensures { result ≡ no_room answer }
 {
-    match answer {
-        Answer::Refused(Refusal::NoRoomForRow(_)) => true,
-        _ => false,
-    }
+    matches!(answer, Err(Refusal::NoRoomForRow(_)))
 }
 
 // Answers in a new room of so many numbers.
@@ -50,8 +47,7 @@ pub fn answer_in_room(
     let mut size = 65_536;
     loop {
         let answered = answer_in(heap, question, tables, size)?;
-        let enough = !no_room(answered.answer) || size == 16_777_216;
-        if enough {
+        if !no_room(answered.answer) || size == 16_777_216 {
             return Ok(answered);
         }
         size = (4 * size).min(16_777_216);

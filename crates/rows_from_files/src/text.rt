@@ -3,12 +3,11 @@ ghost use Rattle.std.specs.Prelude.{◌≡◌, length, IfOk, string_bytes};
 ghost use Rattle.question.specs.Tables.{rows_in};
 ghost use Rattle.wire.specs.Bytes.{question_of};
 ghost use Rattle.wire.specs.Tables.{table_text};
-ghost use Rattle.rows_from_files.specs.Forms.{lent_numbers};
+ghost use Rattle.named_files.specs.Forms.{lent_numbers};
 ghost use Rattle.rows_from_files.specs.Printed.{refusal_text, standing, answer_text, Printed, PrintedFor};
 
-use super::lent::{Numbered, lend};
 use super::rooms::{Answered, answer_in_room};
-use answer::Answer;
+use named_files::{Numbered, lend};
 use question::Refusal;
 use std::alloc::{AllocError, Global};
 use wire::{read_question, write_rows};
@@ -23,10 +22,8 @@ fn rows_text(
     ensures { IfOk result (λ text. string_bytes text ≡ table_text (rows_in count columns numbers.now)) }
 {
     let mut text = String::new(heap);
-    match write_rows(&mut text, count, columns, numbers) {
-        Ok(()) => Ok(text),
-        Err(_) => Err(AllocError),
-    }
+    write_rows(&mut text, count, columns, numbers).map_err(|_| AllocError)?;
+    Ok(text)
 }
 
 // A refusal on a line of its own.
@@ -37,13 +34,12 @@ fn refusal_text(heap: Global, refusal: Refusal) -> Result<String, AllocError>
 }
 
 // How many rows stand in the room.
-fn standing(answer: Answer) -> usize
+fn standing(answer: Result<u64, Refusal>) -> usize
     ensures { result ≡ standing answer }
 {
     match answer {
-        Answer::Rows(count) => count as usize,
-        Answer::Refused(Refusal::NoRoomForRow(count)) => count as usize,
-        Answer::Refused(_) => 0,
+        Ok(count) | Err(Refusal::NoRoomForRow(count)) => count as usize,
+        Err(_) => 0,
     }
 }
 
@@ -52,9 +48,8 @@ fn answered_text(heap: Global, columns: usize, answered: &Answered) -> Result<St
     ensures { IfOk result (λ text. string_bytes text ≡ answer_text columns answered.now.out.items answered.now.answer) }
 {
     let mut text = rows_text(heap, columns, standing(answered.answer), &answered.out)?;
-    if let Answer::Refused(refusal) = answered.answer {
-        let end = refusal_text(heap, refusal)?;
-        text.push_str(&end)?;
+    if let Err(refusal) = answered.answer {
+        text.push_str(&refusal_text(heap, refusal)?)?;
     }
     Ok(text)
 }

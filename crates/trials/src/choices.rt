@@ -2,59 +2,75 @@
 use super::plain::Line;
 use std::alloc::{AllocError, Global};
 
-#[derive(Clone, Copy)]
-pub struct Choice {
-    pub size: usize,
-    pub places: [usize; 4],
-    // The least place that may come next.
-    next: usize,
-}
-
-impl Choice {
-    fn with(self, place: usize) -> Choice {
-        let mut places = self.places;
-        if self.size < 4 {
-            places[self.size] = place;
-        }
-        Choice {
-            size: self.size.saturating_add(1),
-            places,
-            next: place.saturating_add(1),
-        }
-    }
-}
-
-// The one choice of no line.
-pub fn no_lines(heap: Global) -> Result<Vec<Choice>, AllocError> {
-    let mut choices = Vec::new(heap);
-    choices.push(Choice {
-        size: 0,
-        places: [0; 4],
-        next: 0,
-    })?;
-    Ok(choices)
-}
+// The places of the lines that are taken, in order.
+type Choice = Vec<usize>;
 
 // The choices of one line more, of count lines: each goes on with every place behind its last.
-pub fn longer(heap: Global, choices: &[Choice], count: usize) -> Result<Vec<Choice>, AllocError> {
+fn longer(heap: Global, choices: &[Choice], count: usize) -> Result<Vec<Choice>, AllocError> {
     let mut more = Vec::new(heap);
     for choice in choices {
-        for place in choice.next..count {
-            more.push(choice.with(place))?;
+        let next = match choice.last() {
+            Some(last) => last.saturating_add(1),
+            None => 0,
+        };
+        for place in next..count {
+            let mut places = choice.clone()?;
+            places.push(place)?;
+            more.push(places)?;
         }
     }
     Ok(more)
 }
 
 // The lines that a choice takes.
-pub fn chosen(heap: Global, choice: &Choice, lines: &[Line]) -> Result<Vec<Line>, AllocError> {
-    let mut taken = Vec::new(heap);
-    for (i, place) in choice.places.iter().enumerate() {
-        if i < choice.size && *place < lines.len() {
-            taken.push(lines[*place])?;
+fn chosen(heap: Global, choice: &Choice, lines: &[Line]) -> Result<Vec<Line>, AllocError> {
+    choice
+        .iter()
+        .filter_map(|place| lines.get(*place))
+        .map(|line| line.clone())
+        .try_collect(heap)
+}
+
+// The lines of the first choice that will do, if any does, and how many of its size will.
+#[derive(Drop)]
+pub struct Found {
+    pub lines: Option<Vec<Line>>,
+    pub equal: u64,
+}
+
+impl Found {
+    fn add(&mut self, lines: Vec<Line>) {
+        self.equal = self.equal.saturating_add(1);
+        self.lines.get_or_insert(lines);
+    }
+}
+
+// The first of the smallest choices of one to four lines that will do.
+pub fn smallest<F: FnMut(&[Line]) -> Result<bool, AllocError>>(
+    heap: Global,
+    lines: &[Line],
+    mut will_do: F,
+) -> Result<Found, AllocError>
+    requires { F.IsAlwaysCallable will_do }
+{
+    let mut found = Found {
+        lines: None,
+        equal: 0,
+    };
+    let mut choices = vec![in heap; Vec::new(heap)]?;
+    for _ in 0..4 {
+        choices = longer(heap, &choices, lines.len())?;
+        for choice in &choices {
+            let taken = chosen(heap, choice, lines)?;
+            if will_do(&taken)? {
+                found.add(taken);
+            }
+        }
+        if found.equal > 0 {
+            break;
         }
     }
-    Ok(taken)
+    Ok(found)
 }
 
 // How many choices of one to four there are.

@@ -38,4 +38,10 @@ impl Dice {
     pub fn once_in(&mut self, n: u64) -> bool {
         self.below(n) == 0
     }
+
+    // One of the items, if there is any.
+    pub fn one_of<'a, T>(&mut self, items: &'a [T]) -> Option<&'a T> {
+        let place = self.below(items.len() as u64) as usize;
+        items.get(place)
+    }
 }

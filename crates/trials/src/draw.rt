@@ -1,6 +1,6 @@
 // Random questions and reports: few variables, repeated, a few numbers, lines that say nothing new, reports that hide a join.
 use super::dice::Dice;
-use super::plain::{Cell, Line, line_of, put_line, term_of};
+use super::plain::{Line, Plain, Term};
 use std::alloc::{AllocError, Global};
 
 // What a question is drawn from.
@@ -27,106 +27,92 @@ fn draw_width(dice: &mut Dice) -> u64 {
     }
 }
 
-// Any shape of one to four lines.
-pub fn draw_shape(dice: &mut Dice) -> Shape {
-    Shape {
-        widths: [draw_width(dice), draw_width(dice), draw_width(dice)],
-        tables: dice.from_to(1, 3),
-        variables: dice.from_to(2, 5),
-        lines: dice.from_to(1, 4),
-        numbers: dice.from_to(4, 12),
-        loose: dice.from_to(4, 30),
-    }
-}
-
-fn draw_term(dice: &mut Dice, shape: &Shape) -> Cell {
-    if dice.once_in(shape.numbers) {
-        [0, dice.below(3)]
-    } else {
-        [1, dice.below(shape.variables)]
-    }
-}
-
-fn draw_line(dice: &mut Dice, shape: &Shape) -> Line {
-    let mut line = [0; 10];
-    let table = dice.below(shape.tables.min(3)) as usize;
-    if table < 3 {
-        line[0] = table as u64;
-        line[1] = shape.widths[table];
-    }
-    for i in 0..4 {
-        if (i as u64) < line[1] {
-            let term = draw_term(dice, shape);
-            line[2 + 2 * i] = term[0];
-            line[3 + 2 * i] = term[1];
+impl Shape {
+    // Any shape of one to four lines.
+    pub fn draw(dice: &mut Dice) -> Self {
+        Shape {
+            widths: [draw_width(dice), draw_width(dice), draw_width(dice)],
+            tables: dice.from_to(1, 3),
+            variables: dice.from_to(2, 5),
+            lines: dice.from_to(1, 4),
+            numbers: dice.from_to(4, 12),
+            loose: dice.from_to(4, 30),
         }
     }
-    line
-}
 
-// A term of one of the question's lines.
-pub fn draw_cell(dice: &mut Dice, question: &[u64; 50]) -> Cell {
-    let line = line_of(question, dice.below(question[9]) as usize);
-    term_of(&line, dice.below(line[1]) as usize)
-}
-
-// Draws a row of up to so many terms, all of which stand in the lines.
-pub fn draw_row(dice: &mut Dice, question: &mut [u64; 50], most: u64) {
-    question[0] = dice.from_to(0, most.min(4));
-    for i in 0..4 {
-        if (i as u64) < question[0] {
-            let term = draw_cell(dice, question);
-            question[1 + 2 * i] = term[0];
-            question[2 + 2 * i] = term[1];
+    fn draw_term(&self, dice: &mut Dice) -> Term {
+        if dice.once_in(self.numbers) {
+            Term::Number(dice.below(3))
+        } else {
+            Term::Variable(dice.below(self.variables))
         }
     }
+
+    fn draw_line(&self, heap: Global, dice: &mut Dice) -> Result<Line, AllocError> {
+        let table = dice.below(self.tables.min(3));
+        let width = self.widths.get(table as usize).copied().unwrap_or(0);
+        let terms = (0..width).map(|_| self.draw_term(dice)).collect(heap)?;
+        Ok(Line { table, terms })
+    }
+
+    // A question of that shape; now and then with a line twice.
+    pub fn draw_question(&self, heap: Global, dice: &mut Dice) -> Result<Plain, AllocError> {
+        let mut lines = Vec::new(heap);
+        for _ in 0..self.lines {
+            lines.push(self.draw_line(heap, dice)?)?;
+        }
+        if dice.once_in(20) {
+            repeat_first(&mut lines)?;
+        }
+        let width = dice.from_to(0, 4);
+        let row = (0..width).map(|_| draw_cell(dice, &lines)).collect(heap)?;
+        Ok(Plain { row, lines })
+    }
 }
 
-// A question of that shape; now and then with a line twice.
-pub fn draw_question(dice: &mut Dice, shape: &Shape) -> [u64; 50] {
-    let mut question = [0; 50];
-    question[9] = shape.lines.min(4);
-    for i in 0..4 {
-        if (i as u64) < shape.lines {
-            let line = draw_line(dice, shape);
-            put_line(&mut question, i, &line);
+// Puts the first line in the second's place.
+fn repeat_first(lines: &mut Vec<Line>) -> Result<(), AllocError> {
+    if let Some(first) = lines.first() {
+        let again = first.clone()?;
+        if lines.len() > 1 {
+            lines[1] = again;
+        } else {
+            lines.push(again)?;
         }
     }
-    if dice.once_in(20) {
-        let again = line_of(&question, 0);
-        put_line(&mut question, 1, &again);
-        question[9] = question[9].max(2);
-    }
-    draw_row(dice, &mut question, 4);
-    question
+    Ok(())
 }
 
-// Whether a term is one of the first of a row.
-fn in_row(question: &[u64; 50], term: Cell, count: usize) -> bool {
-    for i in 0..4 {
-        if i < count && question[1 + 2 * i] == term[0] && question[2 + 2 * i] == term[1] {
-            return true;
-        }
-    }
-    false
+// A term of one of the lines.
+pub fn draw_cell(dice: &mut Dice, lines: &[Line]) -> Term {
+    let Some(line) = dice.one_of(lines) else {
+        return Term::Number(0);
+    };
+    dice.one_of(&line.terms).copied().unwrap_or(Term::Number(0))
 }
 
-// Gives a report its row: different variables of its lines, one in so many left out and hidden thereby.
-fn draw_report_row(dice: &mut Dice, report: &mut [u64; 50], hidden: u64) {
-    let mut count: usize = 0;
-    let turned = dice.once_in(2);
-    for i in 0..16 {
-        let place = if turned { 15 - i } else { i };
-        let line = line_of(report, place / 4);
-        let term = term_of(&line, place % 4);
-        let new = term[0] == 1 && !in_row(report, term, count);
-        if new && count < 4 && !dice.once_in(hidden) {
-            report[1 + 2 * count] = 1;
-            report[2 + 2 * count] = term[1];
-            count += 1;
+// A report's row: different variables of its lines, one in so many left out and hidden thereby.
+fn draw_report_row(
+    heap: Global,
+    dice: &mut Dice,
+    lines: &[Line],
+    hidden: u64,
+) -> Result<Vec<Term>, AllocError> {
+    let mut terms: Vec<Term> = lines
+        .iter()
+        .flat_map(|line| line.terms.iter().copied())
+        .collect(heap)?;
+    if dice.once_in(2) {
+        terms.reverse();
+    }
+    let mut row = Vec::new(heap);
+    for term in &terms {
+        let new = term.is_variable() && !row.contains(term);
+        if new && row.len() < 4 && !dice.once_in(hidden) {
+            row.push(*term)?;
         }
     }
-    report[0] = count as u64;
+    Ok(row)
 }
 
 // The other name of a variable.
@@ -135,109 +121,79 @@ pub fn renamed(variable: u64) -> u64 {
 }
 
 // A term under another name; now and then another variable, also for a number.
-fn loosened(dice: &mut Dice, term: Cell, loose: u64) -> Cell {
+fn loosened(dice: &mut Dice, term: Term, loose: u64) -> Term {
     let other = dice.once_in(loose);
-    if term[0] == 0 {
-        if other || dice.once_in(2) {
-            [1, 14]
+    match term {
+        Term::Number(_) => {
+            if other || dice.once_in(2) {
+                Term::Variable(14)
+            } else {
+                term
+            }
+        }
+        Term::Variable(x) => Term::Variable(if other {
+            dice.from_to(11, 13)
         } else {
-            term
-        }
-    } else if other {
-        [1, dice.from_to(11, 13)]
-    } else {
-        [1, renamed(term[1])]
+            renamed(x)
+        }),
     }
 }
 
-fn loosened_line(dice: &mut Dice, line: &Line, loose: u64) -> Line {
-    let mut other = *line;
-    for i in 0..4 {
-        if (i as u64) < line[1] {
-            let term = loosened(dice, term_of(line, i), loose);
-            other[2 + 2 * i] = term[0];
-            other[3 + 2 * i] = term[1];
-        }
-    }
-    other
+fn loosened_line(
+    heap: Global,
+    dice: &mut Dice,
+    line: &Line,
+    loose: u64,
+) -> Result<Line, AllocError> {
+    let terms = line
+        .terms
+        .iter()
+        .map(|term| loosened(dice, *term, loose))
+        .collect(heap)?;
+    Ok(Line {
+        table: line.table,
+        terms,
+    })
 }
 
-// Some of the question's lines under other names, with no row yet.
-pub fn draw_part(dice: &mut Dice, question: &[u64; 50], lines: u64, loose: u64) -> [u64; 50] {
-    let mut part = [0; 50];
-    let count = lines.min(4);
-    part[9] = count;
-    for i in 0..4 {
-        if (i as u64) < count {
-            let line = line_of(question, dice.below(question[9]) as usize);
-            let other = loosened_line(dice, &line, loose);
-            put_line(&mut part, i, &other);
+// So many of the lines under other names.
+pub fn draw_part(
+    heap: Global,
+    dice: &mut Dice,
+    lines: &[Line],
+    count: u64,
+    loose: u64,
+) -> Result<Vec<Line>, AllocError> {
+    let mut part = Vec::new(heap);
+    for _ in 0..count {
+        if let Some(line) = dice.one_of(lines) {
+            part.push(loosened_line(heap, dice, line, loose)?)?;
         }
     }
-    part
+    Ok(part)
 }
 
 // A report: most are parts of the question, some are anything over its tables.
-pub fn draw_report(dice: &mut Dice, shape: &Shape, question: &[u64; 50]) -> [u64; 50] {
-    let hidden = dice.from_to(3, 9);
-    let mut report = if dice.once_in(6) {
-        let mut free = *shape;
-        free.lines = dice.from_to(1, 2);
-        draw_question(dice, &free)
-    } else {
-        let lines = dice.from_to(1, 2);
-        draw_part(dice, question, lines, shape.loose)
-    };
-    report[0] = 0;
-    for i in 1..9 {
-        report[i] = 0;
-    }
-    draw_report_row(dice, &mut report, hidden);
-    report
-}
-
-pub fn draw_reports(
+pub fn draw_report(
     heap: Global,
     dice: &mut Dice,
     shape: &Shape,
-    question: &[u64; 50],
-    count: u64,
-) -> Result<Vec<[u64; 50]>, AllocError> {
-    let mut reports = Vec::new(heap);
-    for _ in 0..count {
-        reports.push(draw_report(dice, shape, question))?;
-    }
-    Ok(reports)
+    question: &Plain,
+) -> Result<Plain, AllocError> {
+    let hidden = dice.from_to(3, 9);
+    let lines = if dice.once_in(6) {
+        let mut free = *shape;
+        free.lines = dice.from_to(1, 2);
+        free.draw_question(heap, dice)?.lines
+    } else {
+        let count = dice.from_to(1, 2);
+        draw_part(heap, dice, &question.lines, count, shape.loose)?
+    };
+    let row = draw_report_row(heap, dice, &lines, hidden)?;
+    Ok(Plain { row, lines })
 }
 
-// The question with other numbers where nothing is looked at.
-pub fn soiled(question: &[u64; 50], with: u64) -> [u64; 50] {
-    let mut lent = [with; 50];
-    lent[9] = question[9];
-    lent[0] = question[0];
-    for i in 0..4 {
-        if (i as u64) < question[0] {
-            lent[1 + 2 * i] = question[1 + 2 * i];
-            lent[2 + 2 * i] = question[2 + 2 * i];
-        }
-        if (i as u64) < question[9] {
-            soil_line(&mut lent, &line_of(question, i), i);
-        }
-    }
-    lent
-}
-
-// Writes a line and leaves the room behind its terms as it is.
-fn soil_line(lent: &mut [u64; 50], line: &Line, place: usize) {
-    if place < 4 {
-        let start = 10 + 10 * place;
-        lent[start] = line[0];
-        lent[start + 1] = line[1];
-        for i in 0..4 {
-            if (i as u64) < line[1] {
-                lent[start + 2 + 2 * i] = line[2 + 2 * i];
-                lent[start + 3 + 2 * i] = line[3 + 2 * i];
-            }
-        }
-    }
+// The number that is lent where nothing is looked at.
+pub fn draw_soil(dice: &mut Dice) -> u64 {
+    if dice.once_in(2) { 0 } else { dice.below(20) }
 }

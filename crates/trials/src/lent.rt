@@ -1,23 +1,72 @@
-// Tables as they are lent, and their rows as the second way takes them in.
+// Tables, and how they are lent.
 use super::dice::Dice;
-use super::draw::Shape;
 use super::plain::Line;
+use super::questions::Asked;
 use std::alloc::{AllocError, Global};
 
+// A table as it is lent: its number, its counts of rows and columns, and its rows. A table at fault has other counts than its rows have.
 #[derive(Drop)]
-pub struct Tables {
-    pub count: u64,
-    // For each table its number, its counts and its cells.
-    pub numbers: Vec<u64>,
-    // The rows of all tables, each as a line of numbers.
-    pub rows: Vec<Line>,
+pub struct Table {
+    pub number: u64,
+    pub height: u64,
+    pub width: u64,
+    pub rows: Vec<Vec<u64>>,
 }
 
-// The numbers that the cells are drawn from.
-#[derive(Clone, Copy)]
-struct Values {
-    numbers: [u64; 5],
-    count: u64,
+impl Table {
+    // A table that has counts alone.
+    pub fn empty(heap: Global, number: u64, height: u64, width: u64) -> Self {
+        Table {
+            number,
+            height,
+            width,
+            rows: Vec::new(heap),
+        }
+    }
+
+    // A table of so many rows, each made from its place.
+    pub fn made<F: FnMut(u64) -> Result<Vec<u64>, AllocError>>(
+        heap: Global,
+        number: u64,
+        height: u64,
+        width: u64,
+        mut make_row: F,
+    ) -> Result<Self, AllocError>
+        requires { F.IsAlwaysCallable make_row }
+    {
+        let mut table = Table::empty(heap, number, height, width);
+        for place in 0..height {
+            table.rows.push(make_row(place)?)?;
+        }
+        Ok(table)
+    }
+
+    // A table of up to twenty rows, some of which stand twice.
+    fn draw(
+        heap: Global,
+        dice: &mut Dice,
+        values: &[u64],
+        number: u64,
+        width: u64,
+    ) -> Result<Self, AllocError> {
+        let height = dice.from_to(0, 20);
+        let mut row = draw_row(heap, dice, values, width)?;
+        Table::made(heap, number, height, width, |_| {
+            if !dice.once_in(5) {
+                row = draw_row(heap, dice, values, width)?;
+            }
+            row.clone()
+        })
+    }
+
+    // Lends the table behind others.
+    fn lend(&self, lent: &mut Vec<u64>) -> Result<(), AllocError> {
+        lent.extend_from_slice(&[self.number, self.height, self.width])?;
+        for row in &self.rows {
+            lent.extend_from_slice(row)?;
+        }
+        Ok(())
+    }
 }
 
 // Mostly small; now and then about 2^32, where numbers of a question end, or the largest.
@@ -30,122 +79,59 @@ fn draw_value(dice: &mut Dice) -> u64 {
     }
 }
 
-fn draw_values(dice: &mut Dice) -> Values {
-    let mut numbers = [0; 5];
-    for i in 0..5 {
-        numbers[i] = draw_value(dice);
-    }
-    Values {
-        numbers,
-        count: dice.from_to(2, 5),
-    }
+// The two to five numbers that the cells are drawn from.
+fn draw_values(heap: Global, dice: &mut Dice) -> Result<Vec<u64>, AllocError> {
+    let mut values: Vec<u64> = (0..5u64).map(|_| draw_value(dice)).collect(heap)?;
+    values.truncate(dice.from_to(2, 5) as usize);
+    Ok(values)
 }
 
-fn draw_cells(dice: &mut Dice, values: &Values) -> [u64; 4] {
-    let mut cells = [0; 4];
-    for i in 0..4 {
-        let place = dice.below(values.count) as usize;
-        if place < 5 {
-            cells[i] = values.numbers[place];
-        }
-    }
-    cells
-}
-
-pub fn no_tables(heap: Global) -> Tables {
-    Tables {
-        count: 0,
-        numbers: Vec::new(heap),
-        rows: Vec::new(heap),
-    }
-}
-
-// One table more, with its counts and no cells yet.
-pub fn put_counts(
-    tables: &mut Tables,
-    number: u64,
-    rows: u64,
-    columns: u64,
-) -> Result<(), AllocError> {
-    tables.count = tables.count.saturating_add(1);
-    tables.numbers.push(number)?;
-    tables.numbers.push(rows)?;
-    tables.numbers.push(columns)?;
-    Ok(())
-}
-
-// A row more of the last table.
-pub fn put_cells(
-    tables: &mut Tables,
-    number: u64,
-    width: u64,
-    cells: &[u64; 4],
-) -> Result<(), AllocError> {
-    let mut row = [0; 10];
-    row[0] = number;
-    row[1] = width;
-    for i in 0..4 {
-        if (i as u64) < width {
-            tables.numbers.push(cells[i])?;
-            row[3 + 2 * i] = cells[i];
-        }
-    }
-    tables.rows.push(row)?;
-    Ok(())
-}
-
-// A table of up to twenty rows, some of which stand twice.
-fn draw_table(
+// Four cells are drawn whatever the width.
+fn draw_row(
+    heap: Global,
     dice: &mut Dice,
-    tables: &mut Tables,
-    values: &Values,
-    number: u64,
+    values: &[u64],
     width: u64,
-) -> Result<(), AllocError> {
-    let rows = dice.from_to(0, 20);
-    put_counts(tables, number, rows, width)?;
-    let mut cells = draw_cells(dice, values);
-    for _ in 0..rows {
-        if !dice.once_in(5) {
-            cells = draw_cells(dice, values);
+) -> Result<Vec<u64>, AllocError> {
+    let mut row: Vec<u64> = (0..4u64)
+        .map(|_| dice.one_of(values).copied().unwrap_or(0))
+        .collect(heap)?;
+    row.truncate(width as usize);
+    Ok(row)
+}
+
+impl Asked {
+    // The number and the width of the i-th table: mostly those of a line, now and then another width, or a number that is one of a line's but for 2^32.
+    fn draw_name(&self, dice: &mut Dice, i: u64) -> (u64, u64) {
+        let other = dice.once_in(6);
+        let table = if other { dice.below(4) } else { i % 3 };
+        let width = match self.shape.widths.get(table as usize) {
+            Some(width) if !dice.once_in(16) => *width,
+            _ => dice.from_to(0, 4),
+        };
+        let number = self.first.saturating_add(table);
+        if dice.once_in(30) {
+            (number.saturating_add(4294967296), width)
+        } else {
+            (number, width)
         }
-        put_cells(tables, number, width, &cells)?;
     }
-    Ok(())
-}
 
-// The number and the width of the i-th table: mostly those of a line, now and then another width, or a number that is one of a line's but for 2^32.
-fn draw_name(dice: &mut Dice, shape: &Shape, first: u64, i: u64) -> (u64, u64) {
-    let other = dice.once_in(6);
-    let table = if other { dice.below(4) } else { i % 3 };
-    let place = table as usize;
-    let width = if place < 3 && !dice.once_in(16) {
-        shape.widths[place]
-    } else {
-        dice.from_to(0, 4)
-    };
-    let number = first.saturating_add(table);
-    if dice.once_in(30) {
-        (number.saturating_add(4294967296), width)
-    } else {
-        (number, width)
+    // So many tables more.
+    pub fn draw_tables(
+        &self,
+        heap: Global,
+        dice: &mut Dice,
+        count: u64,
+        tables: &mut Vec<Table>,
+    ) -> Result<(), AllocError> {
+        let values = draw_values(heap, dice)?;
+        for i in 0..count {
+            let (number, width) = self.draw_name(dice, i);
+            tables.push(Table::draw(heap, dice, &values, number, width)?)?;
+        }
+        Ok(())
     }
-}
-
-// So many tables more. The first table of the shape has the number `first`.
-pub fn draw_more(
-    dice: &mut Dice,
-    tables: &mut Tables,
-    shape: &Shape,
-    first: u64,
-    count: u64,
-) -> Result<(), AllocError> {
-    let values = draw_values(dice);
-    for i in 0..count {
-        let (number, width) = draw_name(dice, shape, first, i);
-        draw_table(dice, tables, &values, number, width)?;
-    }
-    Ok(())
 }
 
 // Mostly some tables; now and then none or sixteen.
@@ -159,9 +145,22 @@ pub fn draw_count(dice: &mut Dice) -> u64 {
 }
 
 // The tables with their count in front.
-pub fn lent_tables(heap: Global, tables: &Tables) -> Result<Vec<u64>, AllocError> {
+pub fn lent_tables(heap: Global, tables: &[Table]) -> Result<Vec<u64>, AllocError> {
     let mut lent = Vec::new(heap);
-    lent.push(tables.count)?;
-    lent.extend_from_slice(tables.numbers.as_slice())?;
+    lent.push(tables.len() as u64)?;
+    for table in tables {
+        table.lend(&mut lent)?;
+    }
     Ok(lent)
+}
+
+// The rows of all tables, each a line of numbers.
+pub fn rows_of(heap: Global, tables: &[Table]) -> Result<Vec<Line>, AllocError> {
+    let mut rows = Vec::new(heap);
+    for table in tables {
+        for row in &table.rows {
+            rows.push(Line::of_numbers(heap, table.number, &row)?)?;
+        }
+    }
+    Ok(rows)
 }

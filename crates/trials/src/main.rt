@@ -6,6 +6,7 @@ mod answers;
 mod asked;
 mod cases;
 mod choices;
+mod counts;
 mod crowded;
 mod dice;
 mod draft;
@@ -24,24 +25,18 @@ mod shown;
 mod tables;
 mod turned_away;
 
+use counts::Count;
 use std::io;
 
 fn main(rt: HostRuntime) -> io::Result<()> {
-    let of_cases = cases::show_all(&rt)?;
+    let mut differ = Count::default();
+    differ.add(cases::show_all(&rt)?);
     answered::show_all(&rt)?;
-    let of_find = requests::try_all(&rt, 14000)?;
-    let of_within = pairs::try_all(&rt, 4000)?;
-    let of_least = shortened::try_all(&rt, 4000)?;
-    let of_answer = answers::try_all(&rt, 6000)?;
-    let of_large = large::try_all(&rt, 24)?;
-    let of_refusals = turned_away::try_all(&rt, 3000)?;
-    let of_questions = of_within.saturating_add(of_least);
-    let of_tables = of_answer
-        .saturating_add(of_large)
-        .saturating_add(of_refusals);
-    let differ = of_cases
-        .saturating_add(of_find)
-        .saturating_add(of_questions)
-        .saturating_add(of_tables);
+    differ.add(requests::try_all(&rt, 14000)?);
+    differ.add(pairs::try_all(&rt, 4000)?);
+    differ.add(shortened::try_all(&rt, 4000)?);
+    differ.add(answers::try_all(&rt, 6000)?);
+    differ.add(large::try_all(&rt, 24)?);
+    differ.add(turned_away::try_all(&rt, 3000)?);
     println!(rt; "{differ} differ")
 }

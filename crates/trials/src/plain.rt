@@ -1,102 +1,138 @@
-// A question of any number of lines, its row and its lines as they are lent: what the second way works on.
+// A question of any number of lines, its row and its lines: what the second way works on, and how it is lent.
 use std::alloc::{AllocError, Global};
+use std::fmt;
 
-// A term as it is lent, its kind and its number or variable.
-pub type Cell = [u64; 2];
+#[derive(Clone, Copy, PartialEq, Eq, PartialOrd, Ord)]
+pub enum Term {
+    Number(u64),
+    Variable(u64),
+}
 
-// A line as it is lent, with 0 where room is left.
-pub type Line = [u64; 10];
+impl Term {
+    pub fn is_variable(self) -> bool {
+        matches!(self, Term::Variable(_))
+    }
 
-#[derive(Drop)]
+    // The number that it is, and 0 for a variable.
+    pub fn number(self) -> u64 {
+        match self {
+            Term::Number(n) => n,
+            Term::Variable(_) => 0,
+        }
+    }
+}
+
+// As a term is lent: its kind, and its number or variable.
+impl From<[u64; 2]> for Term {
+    fn from([kind, number]: [u64; 2]) -> Self {
+        if kind == 1 {
+            Term::Variable(number)
+        } else {
+            Term::Number(number)
+        }
+    }
+}
+
+impl From<Term> for [u64; 2] {
+    fn from(term: Term) -> Self {
+        match term {
+            Term::Number(n) => [0, n],
+            Term::Variable(x) => [1, x],
+        }
+    }
+}
+
+// As a program prints it: 7 or x0.
+impl fmt::Display for Term {
+    fn fmt<W: fmt::Write>(&self, f: &mut fmt::Formatter<W>) -> fmt::Result {
+        match *self {
+            Term::Number(n) => write!(f, "{n}"),
+            Term::Variable(x) => write!(f, "x{x}"),
+        }
+    }
+}
+
+// A line of a question. A row of a table is a line of numbers.
+#[derive(Clone, PartialEq, Eq, PartialOrd, Ord, Drop)]
+pub struct Line {
+    pub table: u64,
+    pub terms: Vec<Term>,
+}
+
+impl Line {
+    // A row of a table.
+    pub fn of_numbers(heap: Global, table: u64, row: &[u64]) -> Result<Self, AllocError> {
+        let terms = row.iter().map(|n| Term::Number(*n)).collect(heap)?;
+        Ok(Line { table, terms })
+    }
+
+    // The line that stands in ten lent numbers.
+    pub fn taken_in(heap: Global, numbers: &[u64; 10]) -> Result<Self, AllocError> {
+        let terms = numbers[2..10]
+            .as_chunks::<2>()
+            .0
+            .iter()
+            .take(numbers[1] as usize)
+            .map(|term| Term::from(*term))
+            .collect(heap)?;
+        Ok(Line {
+            table: numbers[0],
+            terms,
+        })
+    }
+
+    // Whether two lines are over the same table, with as many terms.
+    pub fn is_like(&self, other: &Line) -> bool {
+        self.table == other.table && self.terms.len() == other.terms.len()
+    }
+}
+
+// A use of a report: R0 x0 x2.
+impl fmt::Display for Line {
+    fn fmt<W: fmt::Write>(&self, f: &mut fmt::Formatter<W>) -> fmt::Result {
+        let report = self.table;
+        write!(f, "R{report}")?;
+        for term in &self.terms {
+            write!(f, " {term}")?;
+        }
+        Ok(())
+    }
+}
+
+#[derive(Clone, Drop)]
 pub struct Plain {
-    // The count of terms, and room for four.
-    pub row: [u64; 9],
+    pub row: Vec<Term>,
     pub lines: Vec<Line>,
 }
 
-// The line at a place of a lent question, with 0 for what isn't used.
-pub fn line_of(question: &[u64; 50], place: usize) -> Line {
-    let mut line = [0; 10];
-    if place < 4 {
-        let start = 10 + 10 * place;
-        line[0] = question[start];
-        line[1] = question[start + 1];
-        for i in 0..4 {
-            if (i as u64) < line[1] {
-                line[2 + 2 * i] = question[start + 2 + 2 * i];
-                line[3 + 2 * i] = question[start + 3 + 2 * i];
-            }
+impl Plain {
+    // As it is lent, with a number where nothing is looked at.
+    pub fn lent(&self, soil: u64) -> [u64; 50] {
+        let mut numbers = [soil; 50];
+        numbers[0] = self.row.len() as u64;
+        put_terms(&mut numbers[1..9], &self.row);
+        numbers[9] = self.lines.len() as u64;
+        let rooms = numbers[10..50].as_chunks_mut::<10>().0;
+        for (room, line) in rooms.iter_mut().zip(self.lines.iter()) {
+            room[0] = line.table;
+            room[1] = line.terms.len() as u64;
+            put_terms(&mut room[2..10], &line.terms);
         }
+        numbers
     }
-    line
-}
 
-// The row of a lent question, with 0 for what isn't used.
-pub fn row_of(question: &[u64; 50]) -> [u64; 9] {
-    let mut row = [0; 9];
-    row[0] = question[0];
-    for i in 0..4 {
-        if (i as u64) < row[0] {
-            row[1 + 2 * i] = question[1 + 2 * i];
-            row[2 + 2 * i] = question[2 + 2 * i];
-        }
-    }
-    row
-}
-
-pub fn taken_in(heap: Global, question: &[u64; 50]) -> Result<Plain, AllocError> {
-    let mut lines = Vec::new(heap);
-    for i in 0..4 {
-        if (i as u64) < question[9] {
-            lines.push(line_of(question, i))?;
-        }
-    }
-    Ok(Plain {
-        row: row_of(question),
-        lines,
-    })
-}
-
-// A row and up to four lines as fifty numbers.
-pub fn written(row: &[u64; 9], lines: &[Line]) -> [u64; 50] {
-    let mut question = [0; 50];
-    for (i, number) in row.iter().enumerate() {
-        if i < 9 {
-            question[i] = *number;
-        }
-    }
-    question[9] = lines.len() as u64;
-    for (i, line) in lines.iter().enumerate() {
-        if i < 4 {
-            put_line(&mut question, i, line);
-        }
-    }
-    question
-}
-
-// Puts a line at a place of a question.
-pub fn put_line(question: &mut [u64; 50], place: usize, line: &Line) {
-    if place < 4 {
-        for i in 0..10 {
-            question[10 + 10 * place + i] = line[i];
-        }
+    // As it is left at the front of 52 numbers, with 7 behind it.
+    pub fn left(&self) -> [u64; 52] {
+        let mut numbers = [7; 52];
+        numbers[0..50].copy_from_slice(&self.lent(0));
+        numbers
     }
 }
 
-// The term at a place of a line; the number 0 past the fourth.
-pub fn term_of(line: &Line, place: usize) -> Cell {
-    if place < 4 {
-        [line[2 + 2 * place], line[3 + 2 * place]]
-    } else {
-        [0, 0]
-    }
-}
-
-// The term at a place of a row; the number 0 past the fourth.
-pub fn row_term(row: &[u64; 9], place: usize) -> Cell {
-    if place < 4 {
-        [row[1 + 2 * place], row[2 + 2 * place]]
-    } else {
-        [0, 0]
+// Puts the terms at the front of a room.
+fn put_terms(room: &mut [u64], terms: &[Term]) {
+    let pairs = room.as_chunks_mut::<2>().0;
+    for (pair, term) in pairs.iter_mut().zip(terms) {
+        *pair = (*term).into();
     }
 }

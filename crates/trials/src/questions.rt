@@ -1,16 +1,15 @@
 // Random questions to be answered from tables: any variables, numbers up to the largest that a question may name, also in the row, and any numbers of tables.
 use super::dice::Dice;
-use super::draw::{Shape, draw_question, draw_shape, soiled};
-use super::plain::{Cell, Line, line_of, put_line, term_of};
+use super::draw::{Shape, draw_soil};
+use super::plain::{Plain, Term};
 use std::alloc::{AllocError, Global};
 
-// A question with 0 where nothing is looked at.
-#[derive(Clone, Copy)]
+#[derive(Drop)]
 pub struct Asked {
     pub shape: Shape,
     // The number of the shape's first table.
     pub first: u64,
-    pub question: [u64; 50],
+    pub question: Plain,
 }
 
 // How the terms of a shape are written.
@@ -24,111 +23,85 @@ struct Names {
     large: bool,
 }
 
-fn named(names: &Names, term: Cell) -> Cell {
-    if term[0] == 1 && names.turned {
-        [1, 15u64.saturating_sub(term[1])]
-    } else if names.large && term == [0, 2] {
-        [0, 4294967295]
-    } else {
-        term
-    }
-}
-
-fn named_line(names: &Names, line: &Line) -> Line {
-    let mut other = *line;
-    other[0] = line[0].saturating_add(names.first);
-    for i in 0..4 {
-        let term = named(names, term_of(line, i));
-        if (i as u64) < line[1] {
-            other[2 + 2 * i] = term[0];
-            other[3 + 2 * i] = term[1];
+impl Names {
+    fn name(self, term: &mut Term) {
+        match *term {
+            Term::Variable(x) if self.turned => *term = Term::Variable(15u64.saturating_sub(x)),
+            Term::Number(2) if self.large => *term = Term::Number(4294967295),
+            _ => {}
         }
     }
-    other
-}
 
-fn named_row(names: &Names, question: &mut [u64; 50]) {
-    for i in 0..4 {
-        if (i as u64) < question[0] {
-            let term = named(names, [question[1 + 2 * i], question[2 + 2 * i]]);
-            question[1 + 2 * i] = term[0];
-            question[2 + 2 * i] = term[1];
+    fn name_all(self, question: &mut Plain) {
+        for term in &mut question.row {
+            self.name(term);
         }
-    }
-}
-
-fn all_named(names: &Names, question: &mut [u64; 50]) {
-    named_row(names, question);
-    for i in 0..4 {
-        if (i as u64) < question[9] {
-            let line = named_line(names, &line_of(question, i));
-            put_line(question, i, &line);
+        for line in &mut question.lines {
+            line.table = line.table.saturating_add(self.first);
+            for term in &mut line.terms {
+                self.name(term);
+            }
         }
     }
 }
 
 // Puts a number at a place of the row, also one that stands in no line.
-fn put_number(dice: &mut Dice, question: &mut [u64; 50]) {
-    let place = dice.below(question[0]) as usize;
-    if question[0] > 0 && place < 4 {
-        question[1 + 2 * place] = 0;
-        question[2 + 2 * place] = if dice.once_in(3) {
+fn put_number(dice: &mut Dice, row: &mut [Term]) {
+    let place = dice.below(row.len() as u64) as usize;
+    if let Some(term) = row.get_mut(place) {
+        *term = Term::Number(if dice.once_in(3) {
             4294967295
         } else {
             dice.below(9)
-        };
+        });
     }
 }
 
-pub fn draw_asked(dice: &mut Dice, shape: &Shape) -> Asked {
-    let mut question = draw_question(dice, shape);
-    let first = if dice.once_in(4) { 4294967293 } else { 0 };
-    let names = Names {
-        first,
-        turned: dice.once_in(2),
-        large: dice.once_in(3),
-    };
-    all_named(&names, &mut question);
-    if dice.once_in(5) {
-        put_number(dice, &mut question);
+impl Asked {
+    pub fn draw(heap: Global, dice: &mut Dice, shape: Shape) -> Result<Self, AllocError> {
+        let mut question = shape.draw_question(heap, dice)?;
+        let first = if dice.once_in(4) { 4294967293 } else { 0 };
+        let names = Names {
+            first,
+            turned: dice.once_in(2),
+            large: dice.once_in(3),
+        };
+        names.name_all(&mut question);
+        if dice.once_in(5) {
+            put_number(dice, &mut question.row);
+        }
+        Ok(Asked {
+            shape,
+            first,
+            question,
+        })
     }
-    Asked {
-        shape: *shape,
-        first,
-        question,
+
+    // The question as it is lent: a number where nothing is looked at, and a few behind it.
+    pub fn lent(&self, heap: Global, dice: &mut Dice) -> Result<Vec<u64>, AllocError> {
+        let soil = draw_soil(dice);
+        let mut lent = Vec::from_slice(heap, &self.question.lent(soil))?;
+        for _ in 0..dice.below(3) {
+            lent.push(soil)?;
+        }
+        Ok(lent)
     }
 }
 
 // Mostly few lines, so that there are rows; now and then many variables.
 pub fn draw_kind(dice: &mut Dice) -> Shape {
-    let mut shape = draw_shape(dice);
+    let mut shape = Shape::draw(dice);
     match dice.below(40) {
         0 => {
             shape.widths = [4, 3, 4];
             shape.variables = dice.from_to(6, 16);
             shape.lines = dice.from_to(2, 4);
-            shape
         }
-        1 | 2 | 3 | 4 | 5 => shape,
+        1..=5 => {}
         _ => {
             shape.variables = dice.from_to(3, 6);
             shape.lines = dice.from_to(1, 3);
-            shape
         }
     }
-}
-
-// The question as it is lent: a number where nothing is looked at, and a few behind it.
-pub fn lent_question(
-    heap: Global,
-    dice: &mut Dice,
-    question: &[u64; 50],
-) -> Result<Vec<u64>, AllocError> {
-    let soil = if dice.once_in(2) { 0 } else { dice.below(20) };
-    let mut lent = Vec::new(heap);
-    lent.extend_from_slice(&soiled(question, soil))?;
-    for _ in 0..dice.below(3) {
-        lent.push(soil)?;
-    }
-    Ok(lent)
+    shape
 }

@@ -1,118 +1,151 @@
 // All maps of a question's variables, one by one: which put its lines among given lines, and what they make of its row. No search, and nothing left out.
-use super::plain::{Cell, Line, Plain, row_term, term_of};
+use super::plain::{Line, Plain, Term};
 use std::alloc::{AllocError, Global};
 
-// Where each variable is put. A kind of 2 stands for one that isn't.
-pub type Map = [Cell; 80];
+// What each variable below N is put as, if it is.
+#[derive(Clone, Copy)]
+pub struct Map<const N: usize>([Option<Term>; N]);
 
-const NOT_PUT: Cell = [2, 0];
-
-// The map that puts nothing yet.
-pub fn no_map() -> Map {
-    [NOT_PUT; 80]
-}
-
-// What a term becomes: a number stays.
-pub fn image_of(map: &Map, term: Cell) -> Cell {
-    let x = term[1] as usize;
-    if term[0] == 1 && x < 80 { map[x] } else { term }
-}
-
-pub fn put(map: &mut Map, variable: u64, term: Cell) {
-    let x = variable as usize;
-    if x < 80 {
-        map[x] = term;
+impl<const N: usize> Map<N> {
+    // The map that puts nothing yet.
+    pub fn new() -> Self {
+        Map([None; N])
     }
-}
 
-pub fn image_of_line(map: &Map, line: &Line) -> Line {
-    let mut image = *line;
-    for i in 0..4 {
-        let term = image_of(map, term_of(line, i));
-        image[2 + 2 * i] = term[0];
-        image[3 + 2 * i] = term[1];
+    fn get(&self, variable: u64) -> Option<Term> {
+        self.0.get(variable as usize).copied().flatten()
     }
-    image
-}
 
-pub fn image_of_row(map: &Map, row: &[u64; 9]) -> [u64; 9] {
-    let mut image = *row;
-    for i in 0..4 {
-        let term = image_of(map, row_term(row, i));
-        image[1 + 2 * i] = term[0];
-        image[2 + 2 * i] = term[1];
+    pub fn put(&mut self, variable: u64, term: Term) {
+        if let Some(place) = self.0.get_mut(variable as usize) {
+            *place = Some(term);
+        }
     }
-    image
+
+    // The map that goes on from this one so that the terms become the others, if there is one.
+    pub fn with(&self, terms: &[Term], others: &[Term]) -> Option<Self> {
+        let mut map = *self;
+        for (term, other) in terms.iter().zip(others) {
+            if let Term::Variable(x) = *term {
+                map.put(x, map.get(x).unwrap_or(*other));
+            }
+        }
+        if map.makes(terms, others) {
+            Some(map)
+        } else {
+            None
+        }
+    }
+
+    // What a term becomes: a number stays, and a variable that isn't put.
+    pub fn image(&self, term: Term) -> Term {
+        match term {
+            Term::Number(_) => term,
+            Term::Variable(x) => self.get(x).unwrap_or(term),
+        }
+    }
+
+    // What a row's or a line's terms become.
+    pub fn images(&self, heap: Global, terms: &[Term]) -> Result<Vec<Term>, AllocError> {
+        terms.iter().map(|term| self.image(*term)).collect(heap)
+    }
+
+    // Whether the terms become the others.
+    fn makes(&self, terms: &[Term], others: &[Term]) -> bool {
+        terms.len() == others.len()
+            && terms
+                .iter()
+                .zip(others)
+                .all(|(term, other)| self.image(*term) == *other)
+    }
+
+    // Whether all lines become some of the others.
+    fn fits(&self, lines: &[Line], others: &[Line]) -> bool {
+        lines.iter().all(|line| {
+            others.iter().any(|other| {
+                line.table == other.table && self.makes(&line.terms, &other.terms)
+            })
+        })
+    }
 }
 
 // The terms of lines, each once.
-pub fn terms_of(heap: Global, lines: &[Line]) -> Result<Vec<Cell>, AllocError> {
+pub fn terms_of(heap: Global, lines: &[Line]) -> Result<Vec<Term>, AllocError> {
     let mut terms = Vec::new(heap);
-    for line in lines {
-        for i in 0..4 {
-            let term = term_of(line, i);
-            if (i as u64) < line[1] && !terms.as_slice().contains(&term) {
-                terms.push(term)?;
-            }
+    for term in lines.iter().flat_map(|line| line.terms.iter()) {
+        if !terms.contains(term) {
+            terms.push(*term)?;
         }
     }
     Ok(terms)
 }
 
-// The variables of lines that a map doesn't put, each once.
-fn free_of(heap: Global, map: &Map, lines: &[Line]) -> Result<Vec<u64>, AllocError> {
+// A variable to be put, and the place of what it is put as among the terms.
+#[derive(Clone, Copy)]
+struct Free {
+    variable: u64,
+    place: usize,
+}
+
+// The variables of lines that a map doesn't put, each once, at the first of the terms.
+fn free_of(heap: Global, map: &Map<80>, lines: &[Line]) -> Result<Vec<Free>, AllocError> {
     let mut free = Vec::new(heap);
     for term in terms_of(heap, lines)?.iter() {
-        let image = image_of(map, *term);
-        if image[0] == 2 {
-            free.push(term[1])?;
+        match *term {
+            Term::Variable(variable) if map.get(variable).is_none() => {
+                free.push(Free { variable, place: 0 })?;
+            }
+            _ => {}
         }
     }
     Ok(free)
 }
 
-// Whether all lines become some of the others.
-fn fits(map: &Map, lines: &[Line], others: &[Line]) -> bool {
-    for line in lines {
-        if !others.contains(&image_of_line(map, line)) {
-            return false;
-        }
-    }
-    true
-}
-
 // How many maps there are of some variables to some terms.
 pub fn count_maps(terms: usize, variables: usize) -> u64 {
-    let mut count: u64 = 1;
-    for _ in 0..variables {
-        count = count.saturating_mul(terms as u64);
-    }
-    count
-}
-
-// Puts each of the variables as the first of the terms.
-fn put_first(map: &mut Map, free: &[u64], terms: &[Cell]) {
-    if terms.len() > 0 {
-        for x in free {
-            put(map, *x, terms[0]);
-        }
-    }
+    (0..variables).fold(1, |count: u64, _| count.saturating_mul(terms as u64))
 }
 
 // The next map: the first variable goes on to its next term; from the last it goes back to the first, and the variable after it goes on.
-fn step(map: &mut Map, places: &mut [usize; 80], free: &[u64], terms: &[Cell]) {
-    for (i, x) in free.iter().enumerate() {
-        if i < 80 && terms.len() > 0 {
-            let next = places[i].wrapping_add(1);
-            if next < terms.len() {
-                places[i] = next;
-                put(map, *x, terms[next]);
-                return;
-            }
-            places[i] = 0;
-            put(map, *x, terms[0]);
+fn step(map: &mut Map<80>, free: &mut [Free], terms: &[Term]) {
+    for one in free.iter_mut() {
+        let next = one.place.saturating_add(1);
+        let more = next < terms.len();
+        one.place = if more { next } else { 0 };
+        if let Some(term) = terms.get(one.place) {
+            map.put(one.variable, *term);
+        }
+        if more {
+            return;
         }
     }
+}
+
+// Goes through all maps that go on from one and put the lines among the others, until one is enough; false where none is.
+fn any_fit<F: FnMut(&Map<80>) -> Result<bool, AllocError>>(
+    heap: Global,
+    from: &Map<80>,
+    lines: &[Line],
+    others: &[Line],
+    mut enough: F,
+) -> Result<bool, AllocError>
+    requires { F.IsAlwaysCallable enough }
+{
+    let terms = terms_of(heap, others)?;
+    let mut free = free_of(heap, from, lines)?;
+    let mut map = *from;
+    if let Some(first) = terms.first() {
+        for one in &free {
+            map.put(one.variable, *first);
+        }
+    }
+    for _ in 0..count_maps(terms.len(), free.len()) {
+        if map.fits(lines, others) && enough(&map)? {
+            return Ok(true);
+        }
+        step(&mut map, &mut free, &terms);
+    }
+    Ok(false)
 }
 
 // What the row becomes under every map that puts the lines among the others, each once.
@@ -120,62 +153,33 @@ pub fn images(
     heap: Global,
     question: &Plain,
     others: &[Line],
-) -> Result<Vec<[u64; 9]>, AllocError> {
+) -> Result<Vec<Vec<Term>>, AllocError> {
     let mut found = Vec::new(heap);
-    let mut map = no_map();
-    let mut places = [0; 80];
-    let free = free_of(heap, &map, question.lines.as_slice())?;
-    let terms = terms_of(heap, others)?;
-    put_first(&mut map, free.as_slice(), terms.as_slice());
-    for _ in 0..count_maps(terms.len(), free.len()) {
-        if fits(&map, question.lines.as_slice(), others) {
-            let row = image_of_row(&map, &question.row);
-            if !found.as_slice().contains(&row) {
-                found.push(row)?;
-            }
+    any_fit(heap, &Map::new(), &question.lines, others, |map| {
+        let row = map.images(heap, &question.row)?;
+        if !found.contains(&row) {
+            found.push(row)?;
         }
-        step(&mut map, &mut places, free.as_slice(), terms.as_slice());
-    }
+        Ok(false)
+    })?;
     Ok(found)
-}
-
-// Puts the variables of a row so that it becomes another; false where none does.
-fn put_row(map: &mut Map, row: &[u64; 9], other: &[u64; 9]) -> bool {
-    for i in 0..4 {
-        let term = row_term(row, i);
-        if term[0] == 1 && (i as u64) < row[0] && image_of(map, term) == NOT_PUT {
-            put(map, term[1], row_term(other, i));
-        }
-    }
-    image_of_row(map, row) == *other
 }
 
 // How many maps there are of one question into another that put its row as the other's.
 pub fn maps_into(heap: Global, question: &Plain, other: &Plain) -> Result<u64, AllocError> {
-    let mut map = no_map();
-    if !put_row(&mut map, &question.row, &other.row) {
+    let Some(map) = Map::new().with(&question.row, &other.row) else {
         return Ok(0);
-    }
-    let free = free_of(heap, &map, question.lines.as_slice())?;
-    let terms = terms_of(heap, other.lines.as_slice())?;
+    };
+    let free = free_of(heap, &map, &question.lines)?;
+    let terms = terms_of(heap, &other.lines)?;
     Ok(count_maps(terms.len(), free.len()))
 }
 
 // Whether some map puts the lines among the other's and the row as the other's. What the row fixes is fixed; every other variable is put as each term.
 pub fn reads(heap: Global, question: &Plain, other: &Plain) -> Result<bool, AllocError> {
-    let mut map = no_map();
-    let mut places = [0; 80];
-    if !put_row(&mut map, &question.row, &other.row) {
+    let Some(map) = Map::new().with(&question.row, &other.row) else {
         return Ok(false);
-    }
-    let free = free_of(heap, &map, question.lines.as_slice())?;
-    let terms = terms_of(heap, other.lines.as_slice())?;
-    put_first(&mut map, free.as_slice(), terms.as_slice());
-    for _ in 0..count_maps(terms.len(), free.len()) {
-        if fits(&map, question.lines.as_slice(), other.lines.as_slice()) {
-            return Ok(true);
-        }
-        step(&mut map, &mut places, free.as_slice(), terms.as_slice());
-    }
-    Ok(false)
+    };
+    let lines = &question.lines;
+    any_fit(heap, &map, lines, &other.lines, |_| Ok(true))
 }

@@ -1,49 +1,28 @@
 // Numbers and uses as they are printed.
-use super::plain::{Cell, Line, line_of, term_of};
-use std::io;
+use super::plain::Line;
+use std::{fmt, io};
 
-// Numbers one after another, as they are lent.
-pub fn show_numbers(rt: &HostRuntime, numbers: &[u64]) -> io::Result<()> {
-    for number in numbers {
-        print!(rt; " {number}")?;
-    }
-    println!(rt; "")
-}
+// Numbers one after another, each behind a space, as they are lent.
+#[derive(Clone, Copy)]
+pub struct Numbers<'a>(pub &'a [u64]);
 
-fn show_term(rt: &HostRuntime, term: Cell) -> io::Result<()> {
-    let number = term[1];
-    if term[0] == 1 {
-        print!(rt; " x{number}")
-    } else {
-        print!(rt; " {number}")
-    }
-}
-
-fn show_use(rt: &HostRuntime, line: &Line) -> io::Result<()> {
-    let report = line[0];
-    print!(rt; " R{report}")?;
-    for i in 0..4 {
-        if (i as u64) < line[1] {
-            show_term(rt, term_of(line, i))?;
+impl fmt::Display for Numbers<'_> {
+    fn fmt<W: fmt::Write>(&self, f: &mut fmt::Formatter<W>) -> fmt::Result {
+        for number in self.0 {
+            write!(f, " {number}")?;
         }
+        Ok(())
     }
-    Ok(())
 }
 
 // A question over reports: by 2: R0 x0 x2, R1 x0 x3.
 pub fn show_found(rt: &HostRuntime, uses: u64, out: &[u64; 52]) -> io::Result<()> {
     print!(rt; "by {uses}:")?;
-    let mut question = [0; 50];
-    for i in 0..50 {
-        question[i] = out[i];
-    }
-    for i in 0..4 {
-        if (i as u64) < uses {
-            if i > 0 {
-                print!(rt; ",")?;
-            }
-            show_use(rt, &line_of(&question, i))?;
-        }
+    let lines = out[10..50].as_chunks::<10>().0;
+    for (i, line) in lines.iter().take(uses as usize).enumerate() {
+        let comma = if i > 0 { "," } else { "" };
+        let found = Line::taken_in(rt.alloc(), line)?;
+        print!(rt; "{comma} {found}")?;
     }
     println!(rt; "")
 }

@@ -1,33 +1,53 @@
 // What `answer` tells where it turns the question or the tables away: of random faults, one or several at once, the first in the order of the refusals. The room stays as it was.
+use super::counts::Count;
 use super::dice::Dice;
-use super::draw::draw_shape;
-use super::lent::{Tables, draw_more, lent_tables, no_tables, put_cells, put_counts};
-use super::plain::{Cell, Line, line_of, put_line};
-use super::questions::{Asked, draw_asked, lent_question};
-use super::rooms::turns_away;
-use super::shown::show_numbers;
+use super::draw::Shape;
+use super::lent::{Table, lent_tables};
+use super::plain::{Line, Plain};
+use super::questions::Asked;
+use super::rooms::Call;
+use question::Refusal;
 use std::alloc::{AllocError, Global};
 use std::io;
 
 // What was compared: how many are told for the question's length, the tables', for no question, for a table too large.
-#[derive(Clone, Copy)]
+#[derive(Clone, Copy, Default)]
 struct Tally {
-    told: [u64; 4],
+    short_questions: Count,
+    short_tables: Count,
+    no_questions: Count,
+    large_tables: Count,
     // How many have several faults.
-    several: u64,
-    differ: u64,
+    several: Count,
+    differ: Count,
 }
 
-// Which faults there are, in the order in which they are told.
-#[derive(Clone, Copy)]
-struct Faults {
-    short_question: bool,
-    short_tables: bool,
-    no_question: bool,
-    large_table: bool,
+// What may be at fault.
+#[derive(Clone, Copy, PartialEq, Eq)]
+enum Fault {
+    ShortQuestion,
+    ShortTables,
+    NoQuestion,
+    LargeTable,
 }
 
-// What is lent, and where the question and the tables are at fault.
+// In the order in which they are told, each with once in how many times there is one.
+const FAULTS: [(Fault, u64); 4] = [
+    (Fault::ShortQuestion, 4),
+    (Fault::ShortTables, 3),
+    (Fault::NoQuestion, 2),
+    (Fault::LargeTable, 2),
+];
+
+fn draw_faults(heap: Global, dice: &mut Dice) -> Result<Vec<Fault>, AllocError> {
+    FAULTS
+        .iter()
+        .filter(|(_, often)| dice.once_in(*often))
+        .map(|(fault, _)| *fault)
+        .collect(heap)
+}
+
+// What is lent, and which line and which table are at fault.
 #[derive(Drop)]
 struct Lent {
     question: Vec<u64>,
@@ -36,295 +56,284 @@ struct Lent {
     table: u64,
 }
 
-fn draw_faults(dice: &mut Dice) -> Faults {
-    Faults {
-        short_question: dice.once_in(4),
-        short_tables: dice.once_in(3),
-        no_question: dice.once_in(2),
-        large_table: dice.once_in(2),
+// Numbers that make a lent question none where they stand from a place on, and the line that is at fault then, or 4.
+#[derive(Drop)]
+struct Spoiling {
+    line: u64,
+    from: usize,
+    numbers: Vec<u64>,
+}
+
+impl Spoiling {
+    // For the row or the count of lines.
+    fn of_question<const N: usize>(
+        heap: Global,
+        from: usize,
+        numbers: [u64; N],
+    ) -> Result<Self, AllocError> {
+        let numbers = Vec::from_array(heap, numbers)?;
+        Ok(Spoiling {
+            line: 4,
+            from,
+            numbers,
+        })
     }
-}
 
-// Puts a term at one of the line's places, of which there is at least one then.
-fn with_term(dice: &mut Dice, line: &Line, term: Cell) -> Line {
-    let mut other = *line;
-    other[1] = line[1].max(1);
-    let place = dice.below(other[1]) as usize;
-    if place < 4 {
-        other[2 + 2 * place] = term[0];
-        other[3 + 2 * place] = term[1];
+    // For a line, from one of its ten numbers on.
+    fn of_line<const N: usize>(
+        heap: Global,
+        line: u64,
+        from: u64,
+        numbers: [u64; N],
+    ) -> Result<Self, AllocError> {
+        let start = line.saturating_mul(10).saturating_add(10);
+        let numbers = Vec::from_array(heap, numbers)?;
+        Ok(Spoiling {
+            line,
+            from: start.saturating_add(from) as usize,
+            numbers,
+        })
     }
-    other
-}
 
-// A line that is none.
-fn no_line(dice: &mut Dice, line: &Line) -> Line {
-    let mut other = *line;
-    match dice.below(5) {
-        0 => {
-            other[1] = dice.from_to(5, 8);
-            other
+    // A term that is none, at one of the line's places, of which there is at least one then.
+    fn draw_term(
+        heap: Global,
+        dice: &mut Dice,
+        place: u64,
+        line: &Line,
+        [kind, number]: [u64; 2],
+    ) -> Result<Self, AllocError> {
+        let width = line.terms.len() as u64;
+        let term = dice.below(width.max(1));
+        if width == 0 {
+            return Spoiling::of_line(heap, place, 1, [1, kind, number]);
         }
-        1 => {
-            other[0] = dice.from_to(4294967296, 4294967299);
-            other
-        }
-        2 => with_term(dice, line, [2, 0]),
-        3 => with_term(dice, line, [1, 16]),
-        _ => with_term(dice, line, [0, 4294967296]),
+        let from = term.saturating_mul(2).saturating_add(2);
+        Spoiling::of_line(heap, place, from, [kind, number])
     }
-}
 
-// The row of one variable, which stands in no line.
-fn put_loose_row(question: &mut [u64; 50]) {
-    question[0] = 1;
-    question[1] = 1;
-    question[2] = 8;
-}
-
-// Another width of the first line's table; for a first line, no line at all.
-fn put_other_width(question: &mut [u64; 50], place: usize) -> u64 {
-    if place == 0 {
-        question[9] = 0;
-        return 4;
+    // For a line that is none by itself.
+    fn draw_line(
+        heap: Global,
+        dice: &mut Dice,
+        place: u64,
+        line: &Line,
+    ) -> Result<Self, AllocError> {
+        match dice.below(5) {
+            0 => Spoiling::of_line(heap, place, 1, [dice.from_to(5, 8)]),
+            1 => Spoiling::of_line(heap, place, 0, [dice.from_to(4294967296, 4294967299)]),
+            2 => Spoiling::draw_term(heap, dice, place, line, [2, 0]),
+            3 => Spoiling::draw_term(heap, dice, place, line, [1, 16]),
+            _ => Spoiling::draw_term(heap, dice, place, line, [0, 4294967296]),
+        }
     }
-    let mut line = [0; 10];
-    let first = line_of(question, 0);
-    line[0] = first[0];
-    line[1] = if first[1] > 0 { first[1] - 1 } else { 1 };
-    put_line(question, place, &line);
-    place as u64
-}
 
-// Makes the question none, and gives the place of the fault.
-fn spoil_question(dice: &mut Dice, question: &mut [u64; 50]) -> u64 {
-    let place = dice.below(question[9]) as usize;
-    match dice.below(8) {
-        0 => {
-            question[0] = dice.from_to(5, 9);
-            4
+    // Another width of the first line's table; for a first line, no line at all.
+    fn of_width(heap: Global, place: u64, first: &Line) -> Result<Self, AllocError> {
+        if place == 0 {
+            return Spoiling::of_question(heap, 9, [0]);
         }
-        1 => {
-            put_loose_row(question);
-            4
+        let width = if first.terms.is_empty() {
+            1
+        } else {
+            first.terms.len() as u64 - 1
+        };
+        Spoiling::of_line(heap, place, 0, [first.table, width, 0, 0, 0, 0, 0, 0, 0, 0])
+    }
+
+    fn draw(heap: Global, dice: &mut Dice, question: &Plain) -> Result<Self, AllocError> {
+        let lines = &question.lines;
+        let place = dice.below(lines.len() as u64);
+        let (Some(first), Some(line)) = (lines.first(), lines.get(place as usize)) else {
+            return Spoiling::of_question(heap, 9, [0]);
+        };
+        match dice.below(8) {
+            0 => Spoiling::of_question(heap, 0, [dice.from_to(5, 9)]),
+            // One variable, which stands in no line.
+            1 => Spoiling::of_question(heap, 0, [1, 1, 8]),
+            2 => Spoiling::of_question(heap, 9, [if lines.len() == 4 { 5 } else { 0 }]),
+            3 => Spoiling::of_width(heap, place, first),
+            _ => Spoiling::draw_line(heap, dice, place, line),
         }
-        2 => {
-            question[9] = if question[9] == 4 { 5 } else { 0 };
-            4
-        }
-        3 => put_other_width(question, place),
-        _ => {
-            let line = no_line(dice, &line_of(question, place));
-            put_line(question, place, &line);
-            place as u64
+    }
+
+    fn spoil(&self, question: &mut [u64]) {
+        let numbers = question.iter_mut().skip(self.from);
+        for (number, other) in numbers.zip(self.numbers.iter()) {
+            *number = *other;
         }
     }
 }
 
 // A table of 5 columns or of 4,097 rows; of no columns, or of one.
-fn put_large(dice: &mut Dice, tables: &mut Tables, number: u64) -> Result<(), AllocError> {
+fn draw_large_table(heap: Global, dice: &mut Dice, number: u64) -> Result<Table, AllocError> {
     match dice.below(24) {
-        0 => {
-            put_counts(tables, number, 4097, 1)?;
-            for i in 0..4097u64 {
-                put_cells(tables, number, 1, &[i, 0, 0, 0])?;
-            }
-            Ok(())
-        }
-        1 | 2 | 3 => put_counts(tables, number, dice.from_to(4097, 4099), 0),
-        4 | 5 | 6 => put_counts(tables, number, 0, dice.from_to(5, 6)),
-        _ => {
-            put_counts(tables, number, 1, 5)?;
-            tables.numbers.push(7)?;
-            put_cells(tables, number, 4, &[1, 2, 3, 4])
-        }
+        0 => Table::made(heap, number, 4097, 1, |i| Ok(vec![in heap; i]?)),
+        1..=3 => Ok(Table::empty(heap, number, dice.from_to(4097, 4099), 0)),
+        4..=6 => Ok(Table::empty(heap, number, 0, dice.from_to(5, 6))),
+        _ => Table::made(heap, number, 1, 5, |_| Ok(vec![in heap; 7, 1, 2, 3, 4]?)),
     }
 }
 
 // Tables, one of them too large, and its place. It may be one that no line names.
-fn draw_large(
+fn draw_tables(
+    heap: Global,
     dice: &mut Dice,
     asked: &Asked,
-    tables: &mut Tables,
     large: bool,
-) -> Result<u64, AllocError> {
+) -> Result<(Vec<Table>, u64), AllocError> {
+    let mut tables = Vec::new(heap);
     let before = dice.from_to(0, 3);
-    draw_more(dice, tables, &asked.shape, asked.first, before)?;
-    let place = tables.count;
+    asked.draw_tables(heap, dice, before, &mut tables)?;
+    let place = tables.len() as u64;
     if large {
         let number = asked.first.saturating_add(dice.below(5));
-        put_large(dice, tables, number)?;
+        tables.push(draw_large_table(heap, dice, number)?)?;
     }
     let behind = dice.from_to(0, 3);
-    draw_more(dice, tables, &asked.shape, asked.first, behind)?;
-    Ok(place)
+    asked.draw_tables(heap, dice, behind, &mut tables)?;
+    Ok((tables, place))
 }
 
 // A table whose rows times columns are past 64 bits, so that no cells seem to be left.
-fn put_past(dice: &mut Dice, tables: &mut Tables) -> Result<(), AllocError> {
-    match dice.below(4) {
-        0 => put_counts(tables, 0, 9223372036854775808, 2),
-        1 => put_counts(tables, 0, 4, 4611686018427387904),
-        2 => put_counts(tables, 0, 4294967296, 4294967296),
-        _ => put_counts(tables, 0, 2, 9223372036854775808),
-    }
+fn draw_past(heap: Global, dice: &mut Dice) -> Table {
+    let (height, width) = match dice.below(4) {
+        0 => (9223372036854775808, 2),
+        1 => (4, 4611686018427387904),
+        2 => (4294967296, 4294967296),
+        _ => (2, 9223372036854775808),
+    };
+    Table::empty(heap, 0, height, width)
 }
 
 // The tables as they are lent, cut short or too many.
-fn short_tables(
+fn lent_short(
     heap: Global,
     dice: &mut Dice,
-    tables: &mut Tables,
+    mut tables: Vec<Table>,
 ) -> Result<Vec<u64>, AllocError> {
     match dice.below(4) {
-        0 => put_past(dice, tables)?,
+        0 => tables.push(draw_past(heap, dice))?,
         1 => {
-            let more = 17u64.saturating_sub(tables.count);
-            for _ in 0..more {
-                put_counts(tables, 0, 0, 1)?;
+            for _ in tables.len()..17 {
+                tables.push(Table::empty(heap, 0, 0, 1))?;
             }
         }
         _ => {
-            let mut lent = lent_tables(heap, tables)?;
-            let all = lent.len();
-            let from = all.saturating_sub(dice.below(4) as usize);
-            let left = if dice.once_in(2) {
-                from.saturating_sub(1)
-            } else {
-                dice.below(all as u64) as usize
-            };
-            lent.truncate(left);
+            let mut lent = lent_tables(heap, &tables)?;
+            lent.truncate(draw_short(dice, lent.len()));
             return Ok(lent);
         }
     }
-    lent_tables(heap, tables)
+    lent_tables(heap, &tables)
 }
 
-fn draw_lent(
-    heap: Global,
-    dice: &mut Dice,
-    asked: &Asked,
-    faults: &Faults,
-) -> Result<Lent, AllocError> {
-    let mut numbers = asked.question;
-    let mut line = 4;
-    if faults.no_question {
-        line = spoil_question(dice, &mut numbers);
-    }
-    let mut question = lent_question(heap, dice, &numbers)?;
-    if faults.short_question {
-        question.truncate(dice.from_to(0, 49) as usize);
-    }
-    let mut tables = no_tables(heap);
-    let table = draw_large(dice, asked, &mut tables, faults.large_table)?;
-    let lent = if faults.short_tables {
-        short_tables(heap, dice, &mut tables)?
+// A length short of that of all numbers: by a few of them, or any.
+fn draw_short(dice: &mut Dice, all: usize) -> usize {
+    let few = all.saturating_sub(dice.below(4) as usize);
+    if dice.once_in(2) {
+        few.saturating_sub(1)
     } else {
-        lent_tables(heap, &tables)?
-    };
-    Ok(Lent {
-        question,
-        tables: lent,
-        line,
-        table,
-    })
-}
-
-// The first of the faults, as a place in the tally; 4 for none.
-fn first_fault(faults: &Faults) -> usize {
-    if faults.short_question {
-        0
-    } else if faults.short_tables {
-        1
-    } else if faults.no_question {
-        2
-    } else if faults.large_table {
-        3
-    } else {
-        4
+        dice.below(all as u64) as usize
     }
 }
 
-// The refusal that is expected, and its place.
-fn expected(lent: &Lent, first: usize) -> [u64; 2] {
-    match first {
-        0 => [1, lent.question.len() as u64],
-        1 => [1, lent.tables.len() as u64],
-        2 => [2, lent.line],
-        _ => [7, lent.table],
+impl Lent {
+    fn draw(
+        heap: Global,
+        dice: &mut Dice,
+        asked: &Asked,
+        faults: &[Fault],
+    ) -> Result<Self, AllocError> {
+        let (mut question, line) = if faults.contains(&Fault::NoQuestion) {
+            let spoiling = Spoiling::draw(heap, dice, &asked.question)?;
+            let mut question = asked.lent(heap, dice)?;
+            spoiling.spoil(&mut question);
+            (question, spoiling.line)
+        } else {
+            (asked.lent(heap, dice)?, 4)
+        };
+        if faults.contains(&Fault::ShortQuestion) {
+            question.truncate(dice.from_to(0, 49) as usize);
+        }
+        let (tables, table) = draw_tables(heap, dice, asked, faults.contains(&Fault::LargeTable))?;
+        let tables = if faults.contains(&Fault::ShortTables) {
+            lent_short(heap, dice, tables)?
+        } else {
+            lent_tables(heap, &tables)?
+        };
+        Ok(Lent {
+            question,
+            tables,
+            line,
+            table,
+        })
     }
-}
 
-fn count_faults(faults: &Faults) -> u64 {
-    let mut count: u64 = 0;
-    for fault in [
-        faults.short_question,
-        faults.short_tables,
-        faults.no_question,
-        faults.large_table,
-    ]
-    .iter()
-    {
-        if *fault {
-            count = count.saturating_add(1);
+    // The refusal for a fault.
+    fn refusal(&self, fault: Fault) -> Refusal {
+        match fault {
+            Fault::ShortQuestion => Refusal::CutShort(self.question.len() as u64),
+            Fault::ShortTables => Refusal::CutShort(self.tables.len() as u64),
+            Fault::NoQuestion => Refusal::NoQuestion(self.line),
+            Fault::LargeTable => Refusal::TableTooLarge(self.table),
         }
     }
-    count
 }
 
-fn count_in(tally: &mut Tally, faults: &Faults, first: usize) {
-    if first < 4 {
-        tally.told[first] = tally.told[first].saturating_add(1);
+impl Tally {
+    fn count_in(&mut self, first: Fault, several: bool) {
+        match first {
+            Fault::ShortQuestion => self.short_questions.add(1),
+            Fault::ShortTables => self.short_tables.add(1),
+            Fault::NoQuestion => self.no_questions.add(1),
+            Fault::LargeTable => self.large_tables.add(1),
+        }
+        self.several.add_if(several);
     }
-    if count_faults(faults) > 1 {
-        tally.several = tally.several.saturating_add(1);
-    }
-}
 
-// One call more, if there is a fault.
-fn try_faults(
-    rt: &HostRuntime,
-    dice: &mut Dice,
-    faults: &Faults,
-    tally: &mut Tally,
-) -> io::Result<()> {
-    let heap = rt.alloc();
-    let first = first_fault(faults);
-    if first > 3 {
-        return Ok(());
+    // One call more, if there is a fault.
+    fn try_faults(
+        &mut self,
+        rt: &HostRuntime,
+        dice: &mut Dice,
+        faults: &[Fault],
+    ) -> io::Result<()> {
+        let heap = rt.alloc();
+        let Some(first) = faults.first() else {
+            return Ok(());
+        };
+        let shape = Shape::draw(dice);
+        let asked = Asked::draw(heap, dice, shape)?;
+        let lent = Lent::draw(heap, dice, &asked, faults)?;
+        self.count_in(*first, faults.len() > 1);
+        let room = dice.below(12) as usize;
+        let call = Call {
+            question: &lent.question,
+            tables: &lent.tables,
+        };
+        if !call.turns_away(heap, lent.refusal(*first), room)? {
+            self.differ.add(1);
+            println!(rt; "differs: turned away{call}")?;
+        }
+        Ok(())
     }
-    let shape = draw_shape(dice);
-    let asked = draw_asked(dice, &shape);
-    let lent = draw_lent(heap, dice, &asked, faults)?;
-    count_in(tally, faults, first);
-    let room = dice.below(12) as usize;
-    let question = lent.question.as_slice();
-    let tables = lent.tables.as_slice();
-    if !turns_away(heap, question, tables, expected(&lent, first), room)? {
-        tally.differ = tally.differ.saturating_add(1);
-        print!(rt; "differs: turned away")?;
-        show_numbers(rt, question)?;
-        print!(rt; "  tables")?;
-        show_numbers(rt, tables)?;
-    }
-    Ok(())
 }
 
 // Draws so many, and prints what was compared.
 pub fn try_all(rt: &HostRuntime, count: u64) -> io::Result<u64> {
     let mut dice = Dice::new(771398264501873);
-    let mut tally = Tally {
-        told: [0; 4],
-        several: 0,
-        differ: 0,
-    };
+    let mut tally = Tally::default();
     for _ in 0..count {
-        let faults = draw_faults(&mut dice);
-        try_faults(rt, &mut dice, &faults, &mut tally)?;
+        let faults = draw_faults(rt.alloc(), &mut dice)?;
+        tally.try_faults(rt, &mut dice, &faults)?;
     }
-    let [question, tables, none, large] = tally.told;
+    let question = tally.short_questions;
+    let tables = tally.short_tables;
     print!(rt; "turned away: {question} by 1 for the question, {tables} by 1 for the tables, ")?;
+    let none = tally.no_questions;
+    let large = tally.large_tables;
     let several = tally.several;
     println!(rt; "{none} by 2, {large} by 7; {several} for several faults")?;
-    Ok(tally.differ)
+    Ok(tally.differ.number())
 }

@@ -1,7 +1,10 @@
 -- The number of a cell, digit by digit.
-use Rattle.std.proofs.Common.{◌≡◌, ℕ, ◌+◌, ◌-◌, ◌*◌, ◌<◌, ◌≤◌, true, false, ◌&&◌, ltb, leb, List, [], ◌∷◌, length, get_or, drop, Some, None, Option, refl, ◌∙◌, arith}
+use Rattle.std.proofs.Common.{◌≡◌, ℕ, ◌+◌, ◌-◌, ◌*◌, ◌<◌, ◌≤◌, true, false, ◌&&◌, ltb, leb, List, [], ◌∷◌, length, get_or, drop, Some, None, Option, refl, ◌∙◌, inl, inr, arith}
 use Rattle.std.proofs.lemmas.List.{at_drop_more, at_drop_all}
-use Rattle.std.proofs.lemmas.Bool.Decides.{nat_tests}
+use Rattle.std.proofs.lemmas.Bool.Decides.{nat_tests, leb_tells}
+use Rattle.std.proofs.lemmas.Str.{digit_value_digit}
+use Rattle.std.proofs.lemmas.Str.Parse.{digit_from_value}
+use Rattle.std.specs.Char.{digit_value}
 use Rattle.std.specs.Option.{SomeIff}
 use Rattle.wire.specs.Tables.{digit_more, digits_more, cell_number}
 
@@ -22,6 +25,25 @@ digit_fits n d ten one None k p q h =
     let m : 18446744073709551616 ≤ n * 10 + (d - 48) = grind arith in
     let t : (leb 48 d && leb d 57 && ltb (n * 10 + (d - 48)) 18446744073709551616) ≡ false = grind (arith, nat_tests) in
     rw t
+
+-- a byte that is a digit, by its value, and one that is none
+pub digit_from : (d v : ℕ) → v ≡ digit_value d → v < 10 → (48 ≤ d) × (d ≤ 57) × (v ≡ d - 48)
+digit_from d v e h =
+    let r = digit_from_value d (omega (arith, e)) in
+    let k = digit_value_digit d r in
+    (omega (arith, e, k), omega (arith, e, k), omega (arith, e, k))
+
+pub digit_none : (n d : ℕ) → (digit_value d < 10 → ⊥) → digit_more n d ≡ None
+unfolding digit_more
+digit_none n d h =
+    elim (leb_tells 48 d) [
+      | inl a ↦
+          elim (leb_tells d 57) [
+            | inl b ↦ absurd (h (omega (arith, a.1, b.1, digit_value_digit d (a.1, b.1))))
+            | inr b ↦ let t : (leb 48 d && leb d 57 && ltb (n * 10 + (d - 48)) 18446744073709551616) ≡ false = grind (arith, nat_tests) in rw t
+          ]
+      | inr a ↦ let t : (leb 48 d && leb d 57 && ltb (n * 10 + (d - 48)) 18446744073709551616) ≡ false = grind (arith, nat_tests) in rw t
+    ]
 
 pub number-none : (xs : List ℕ) → length xs ≡ 0 → cell_number xs ≡ None
 unfolding cell_number

@@ -1,16 +1,15 @@
 -- Room that is filled from its front, part by part: what stands in it so far, and what is left to read, give the whole.
-use Rattle.std.proofs.Common.{◌≡◌, ℕ, suc, ◌+◌, ◌-◌, ◌<◌, ◌≤◌, true, false, leb, List, [], ◌∷◌, ◌++◌, length, take, drop, set, replicate, Some, None, Option, sym, refl, ap, ◌∙◌, inl, inr, arith}
+use Rattle.std.proofs.Common.{◌≡◌, ℕ, suc, ◌+◌, ◌-◌, ◌*◌, ◌<◌, ◌≤◌, true, false, leb, List, [], ◌∷◌, ◌++◌, length, take, drop, set, replicate, Some, None, Option, sym, refl, ap, ◌∙◌, inl, inr, arith}
 use borrow.Rule.Slice.PartMut.{put_mid}
 use Rattle.std.proofs.lemmas.List.{append_assoc, append-nil, set_at, take_at, take_all, drop_at, drop_all, drop-drop, drop-replicate, take-append-drop, length-append, length-take, length-drop, length-replicate}
+use Rattle.std.proofs.Math.Nat.{mul-le-mul_left, mul-zero, mul-add, mul_comm}
 use Rattle.std.proofs.lemmas.Bool.Decides.{nat_tests, leb_tells}
 use Rattle.wire.specs.Bytes.{Reads, gives, ◌>>=◌, times, in_room, read_byte, read_term, read_row, read_line, read_question, read_reports}
-use Rattle.wire.specs.Reading.{kept}
+use denote.Ref.{MutBor}
+use Rattle.wire.specs.declared.reader.Reader.{Reader}
+use Rattle.wire.specs.Reading.{left, kept, behind, ReadsBy, HasSize}
 use Rattle.wire.proofs.Steps.{then_read}
-
--- what is read stands behind the front, in room for so many
-abbrev pub behind : ℕ → List ℕ → Option (List ℕ × List ℕ) → Option (List ℕ × List ℕ)
-behind room front (Some found) = Some (in_room room (front ++ found.0), found.1)
-behind room front None = None
+use Rattle.wire.proofs.Fronts.{take_past}
 
 pub behind-is : (room : ℕ) (front : List ℕ) (read : Reads (List ℕ)) (made : List ℕ → List ℕ) (bytes : List ℕ)
     → ((xs : List ℕ) → made xs ≡ in_room room (front ++ xs)) → ◌>>=◌ read (λ xs. gives (made xs)) bytes ≡ behind room front (read bytes)
@@ -126,16 +125,13 @@ filling_end size at n i room read bytes whole f h =
     ∙ rw (take_all size (take at room) l, s, ← f.zeros, take-append-drop at room)
 
 -- the parts of a request that have room of their own
-pub row-behind : (bytes rest : List ℕ) (count n : ℕ) → read_byte bytes ≡ Some (count, rest) → n ≡ count → read_row bytes ≡ behind 9 (n ∷ []) (times n read_term rest)
+pub row-behind : (bytes rest : List ℕ) (count n : ℕ) → read_byte bytes ≡ Some (count, rest) → n ≡ count → read_row bytes ≡ behind 9 (n ∷ []) (times count read_term rest)
 unfolding read_row
 row-behind bytes rest count n e p =
     rw p (then_read read_byte _ _ _ _ e ∙ behind-is 9 (count ∷ []) (times count read_term) (λ xs. in_room 9 (count ∷ xs)) rest (λ xs. refl))
 
-pub length-room : (size : ℕ) (xs : List ℕ) → length (in_room size xs) ≡ size
-length-room size xs = simp (length-append, length-replicate, length-take) (omega arith)
-
 pub reports_behind : (bytes rest : List ℕ) (count n : ℕ) → read_byte bytes ≡ Some (count, rest) → n ≡ count → n ≤ 8
-    → read_reports bytes ≡ behind 401 (n ∷ []) (times n read_question rest)
+    → read_reports bytes ≡ behind 401 (n ∷ []) (times count read_question rest)
 unfolding read_reports
 reports_behind bytes rest count n e p h =
     let few : leb count 8 ≡ true = grind (arith, nat_tests) in
@@ -157,27 +153,76 @@ filling_start size at front room todo l h e =
       same = rw (e, take_at front (replicate (size - at) 0) at l);
     }
 
--- a question's room with its row and the count of its lines
-pub question-front : (row : List ℕ) (n : ℕ) → length row ≡ 9 → set (row ++ replicate 41 0) 9 n ≡ (row ++ n ∷ []) ++ replicate 40 0
-question-front row n l = set_at row 0 (replicate 40 0) n 9 l ∙ sym (append_assoc row (n ∷ []) (replicate 40 0))
-
-pub question_start : (row : List ℕ) (n m : ℕ) (read : Reads (List ℕ)) (bytes : List ℕ) → length row ≡ 9 → m ≡ n
-    → Filling 50 10 (set (row ++ replicate 41 0) 9 n) (times m read bytes) (behind 50 (take 10 (set (row ++ replicate 41 0) 9 n)) (times n read bytes))
-question_start row n m read bytes l e =
-    let k : length (row ++ n ∷ []) ≡ 10 = length-append row (n ∷ []) ∙ omega arith in
-    rw (e, question-front row n l, take_at (row ++ n ∷ []) (replicate 40 0) 10 k) (filling_start 50 10 (row ++ n ∷ []) _ (times n read bytes) k (omega arith) refl)
-
-pub question-taken : (row : List ℕ) (n : ℕ) → length row ≡ 9 → row ++ n ∷ [] ≡ take 10 (set (row ++ replicate 41 0) 9 n)
-question-taken row n l =
-    let k : length (row ++ n ∷ []) ≡ 10 = length-append row (n ∷ []) ∙ omega arith in
-    rw (question-front row n l) (sym (take_at (row ++ n ∷ []) (replicate 40 0) 10 k))
-
--- what is read of a question, with the room as the lines find it
-pub question-behind : (bytes mid rest row : List ℕ) (count n : ℕ) (copy : List ℕ) → read_row bytes ≡ Some (row, mid) → read_byte mid ≡ Some (count, rest)
-    → n ≡ count → copy ≡ row → length copy ≡ 9
-    → read_question bytes ≡ behind 50 (take 10 (set (copy ++ replicate 41 0) 9 n)) (times n read_line rest)
+-- what is read of a question, behind its row and the count of its lines
+pub question-behind : (bytes mid rest row front : List ℕ) (count : ℕ) → read_row bytes ≡ Some (row, mid) → read_byte mid ≡ Some (count, rest) → front ≡ row ++ count ∷ []
+    → read_question bytes ≡ behind 50 front (times count read_line rest)
 unfolding read_question
-question-behind bytes mid rest row count n copy r e p same l =
-    rw (← question-taken copy n l, same, p)
+question-behind bytes mid rest row front count r e f =
+    rw f
     (then_read read_row _ _ _ _ r ∙ then_read read_byte _ _ _ _ e
     ∙ behind-is 50 (row ++ count ∷ []) (times count read_line) (λ xs. in_room 50 (row ++ count ∷ xs)) rest (λ xs. rw (append_assoc row (count ∷ []) xs)))
+
+-- a room of parts of one size, filled part by part
+module _ {P : Type 0} (post : MutBor Reader → Option P → MutBor Reader → Type 0) (items : P → List ℕ) where
+  -- so many parts are in the room, and the others are left to read
+  abbrev pub PartsLeft : ℕ → ℕ → ℕ → List ℕ → List ℕ → List ℕ → Type 0
+  PartsLeft size count i room bytes all =
+      (n k : ℕ) → 0 < n → size ≡ n * k → HasSize post items n → (reads : Reads (List ℕ)) → ReadsBy post items reads
+      → Filling size (n * i) room (times (count - i) reads bytes) (behind size [] (times count reads all))
+
+  pub parts_start : (size count : ℕ) (room bytes : List ℕ) → room ≡ replicate size 0 → PartsLeft size count 0 room bytes bytes
+  parts_start size count room bytes zeros n k h e s reads r =
+      let z : n * 0 ≡ 0 = mul-zero n in
+      let m : count - 0 ≡ count = omega arith in
+      let l : size - 0 ≡ size = omega arith in
+      rw (z, m, zeros) (filling_start size 0 [] (replicate size 0) (times count reads bytes) refl (omega arith) (rw l refl))
+
+  pub parts_short : (size count i : ℕ) (room all : List ℕ) (m m2 : MutBor Reader) (n k : ℕ) → PartsLeft size count i room (left m.now) all → i < count → post m None m2
+      → 0 < n → size ≡ n * k → HasSize post items n → (reads : Reads (List ℕ)) → ReadsBy post items reads → behind size [] (times count reads all) ≡ None
+  parts_short size count i room all m m2 n k f h p z e s reads r =
+      filling-short size (n * i) count i room reads (left m.now) _ (f n k z e s reads r) h (r m m2 None p)
+
+  pub parts_more : (size count i : ℕ) (room all : List ℕ) (m m2 : MutBor Reader) (p : P) → PartsLeft size count i room (left m.now) all → i < count → post m (Some p) m2
+      → PartsLeft size count (i + 1) (kept (i * length (items p)) (items p) room) (left m2.now) all
+  parts_more size count i room all m m2 p f h q n k z e s reads r =
+      let l : length (items p) ≡ n = s m m2 (Some p) q in
+      let at : i * length (items p) ≡ n * i = ap (λ j. i * j) l ∙ mul_comm i n in
+      let next : n * i + n ≡ n * (i + 1) = omega (arith, mul-add n i 1) in
+      rw at
+      (filling-more size (n * i) (n * (i + 1)) count i room (items p) reads (left m.now) (left m2.now) _ (f n k z e s reads r) h (r m m2 (Some p) q) (omega (arith, l, next))
+      (omega (arith, next)) (fits next))
+    where
+      fits : n * i + n ≡ n * (i + 1) → n * i < size → n * (i + 1) ≤ size
+      fits next less = elim (leb_tells k i) [
+        | inl a ↦ absurd (omega (arith, mul-le-mul_left n a.1, e))
+        | inr a ↦ let b : i + 1 ≤ k = omega (arith, a.1) in omega (arith, mul-le-mul_left n b, e)
+      ]
+
+  pub parts_done : (size count i : ℕ) (room bytes all : List ℕ) (n k : ℕ) → PartsLeft size count i room bytes all → count ≤ i
+      → 0 < n → size ≡ n * k → HasSize post items n → (reads : Reads (List ℕ)) → ReadsBy post items reads → behind size [] (times count reads all) ≡ Some (room, bytes)
+  parts_done size count i room bytes all n k f h z e s reads r = filling_end size (n * i) count i room reads bytes _ (f n k z e s reads r) h
+
+-- parts in a room of their own stand behind what is in front of it
+in_front : (size total : ℕ) (front xs : List ℕ) → length front + size ≡ total → in_room total (front ++ xs) ≡ front ++ in_room size xs
+in_front size total front xs e =
+    let t : take total (front ++ xs) ≡ front ++ take size xs = rw (← e) (take_past (length front + size) front xs (omega arith) ∙ ap (λ k. front ++ take k xs) (omega arith)) in
+    let l : total - length (front ++ take size xs) ≡ size - length (take size xs) = simp length-append (omega (arith, e)) in
+    rw (t, l, append_assoc front (take size xs) (replicate (size - length (take size xs)) 0)) refl
+
+pub front_whole : (size total : ℕ) (front room rest : List ℕ) (todo : Option (List ℕ × List ℕ)) → length front + size ≡ total
+    → behind size [] todo ≡ Some (room, rest) → behind total front todo ≡ Some (front ++ room, rest)
+front_whole size total front room rest (Some found) l e =
+    let p : ◌≡◌ {A = List ℕ × List ℕ} (in_room size found.0, found.1) (room, rest) = cc e in
+    ap Some (rw (in_front size total front found.0 l) (ap (λ (q : List ℕ × List ℕ). (front ++ q.0, q.1)) p))
+front_whole size total front room rest None l e = absurd (let z : ◌≡◌ {A = ℕ} 0 1 = cc e in omega arith)
+
+pub front-short : (size total : ℕ) (front : List ℕ) (todo : Option (List ℕ × List ℕ)) → behind size [] todo ≡ None → behind total front todo ≡ None
+front-short size total front None e = refl
+front-short size total front (Some found) e = absurd (let z : ◌≡◌ {A = ℕ} 0 1 = cc e in omega arith)
+
+-- a question whose row and whose count of lines are written in front of its lines
+pub question-whole : (row copy room rest : List ℕ) (count n : ℕ) (todo : Option (List ℕ × List ℕ)) → copy ≡ row → length copy ≡ 9 → n ≡ count
+    → behind 40 [] todo ≡ Some (room, rest) → behind 50 (row ++ count ∷ []) todo ≡ Some (set (copy ++ 0 ∷ (room ++ [])) 9 n, rest)
+question-whole row copy room rest count n todo e l p h =
+    rw (append-nil room, set_at copy 0 room n 9 l, ← e, ← p)
+    (front_whole 40 50 (copy ++ n ∷ []) room rest todo (omega (arith, l, length-append copy (n ∷ []))) h ∙ rw (append_assoc copy (n ∷ []) room) refl)

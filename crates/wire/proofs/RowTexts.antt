@@ -1,7 +1,7 @@
 -- The text of rows, as it grows.
-use Rattle.std.proofs.Common.{◌≡◌, ℕ, suc, ◌+◌, ◌-◌, ◌<◌, ◌≤◌, min, List, [], ◌∷◌, ◌++◌, length, get_or, take, drop, decimal, sym, ap, ◌∙◌, inl, inr, append_assoc, append-nil, arith}
-use Rattle.std.proofs.lemmas.List.{drop_all, drop_more, take_all}
-use Rattle.std.proofs.lemmas.Bool.Decides.{leb_tells}
+use Rattle.std.proofs.Common.{◌≡◌, ℕ, suc, ◌+◌, ◌-◌, ◌<◌, ◌≤◌, min, List, [], ◌∷◌, ◌++◌, length, get_or, take, drop, decimal, sym, ap, ◌∙◌, append_assoc, append-nil, arith}
+use Rattle.std.proofs.lemmas.List.{drop_all, drop_more, take_min, drop_min}
+use Rattle.std.specs.List.{IsFirstAndRest}
 use Rattle.question.specs.Tables.{rows_in}
 use Rattle.question.proofs.Adding.{added, joined}
 use Rattle.wire.specs.Tables.{row_text, table_text}
@@ -23,34 +23,19 @@ unfolding row_text cells_text
 row-by-cells n [] = sym (append-nil (decimal n))
 row-by-cells n (m ∷ ns) = ap (λ (x : List ℕ). decimal n ++ (44 ∷ x)) (row-by-cells m ns)
 
-pub row_from : (row : List ℕ) → 0 < length row → decimal (get_or row 0 0) ++ cells_text (drop 1 row) ≡ row_text row
-row_from [] h = absurd (omega arith)
-row_from (n ∷ ns) h = sym (row-by-cells n ns)
+pub row_from : (row : List ℕ) (first : ℕ) (others : List ℕ) → IsFirstAndRest row first others → decimal first ++ cells_text others ≡ row_text row
+row_from row first others h = sym (ap row_text h.0 ∙ row-by-cells first others)
 
--- a part that ends where the list does
-take_min : (n end : ℕ) (xs : List ℕ) → end ≡ min n (length xs) → take end xs ≡ take n xs
-take_min n end xs e = elim (leb_tells n (length xs)) [
-  | inl h ↦ let z : end ≡ n = omega (arith, e, h.1) in ap (λ (k : ℕ). take k xs) z
-  | inr h ↦ take_all end xs (omega (arith, e, h.1)) ∙ sym (take_all n xs (omega (arith, h.1)))
-]
-
-drop_min : (n end : ℕ) (xs : List ℕ) → end ≡ min n (length xs) → drop end xs ≡ drop n xs
-drop_min n end xs e = elim (leb_tells n (length xs)) [
-  | inl h ↦ let z : end ≡ n = omega (arith, e, h.1) in ap (λ (k : ℕ). drop k xs) z
-  | inr h ↦ drop_all end xs (omega (arith, e, h.1)) ∙ sym (drop_all n xs (omega (arith, h.1)))
-]
-
-pub rows_more : (n i columns end : ℕ) (rest before between after whole : List ℕ) → i < n → end ≡ min columns (length rest)
-    → between ≡ before ++ row_text (take end rest) → after ≡ between ++ (10 ∷ [])
-    → before ++ table_text (rows_in (n - i) columns rest) ≡ whole → after ++ table_text (rows_in (n - (i + 1)) columns (drop end rest)) ≡ whole
+pub rows_more : (n i columns end : ℕ) (rest row others before between after whole : List ℕ) → i < n → end ≡ min columns (length rest)
+    → row ≡ take end rest → others ≡ drop end rest → between ≡ before ++ row_text row → after ≡ between ++ (10 ∷ [])
+    → before ++ table_text (rows_in (n - i) columns rest) ≡ whole → after ++ table_text (rows_in (n - (i + 1)) columns others) ≡ whole
 unfolding table_text rows_in
-rows_more n i columns end rest before between after whole l e f g h =
+rows_more n i columns end rest row others before between after whole l e r o f g h =
     let one : n - i ≡ suc (n - (i + 1)) = omega arith in
-    let row = row_text (take columns rest) in
-    let others = table_text (rows_in (n - (i + 1)) columns (drop columns rest)) in
-    let here : after ≡ before ++ (row ++ (10 ∷ [])) = joined before between after row (10 ∷ []) (f ∙ ap (λ (x : List ℕ). before ++ row_text x) (take_min columns end rest e)) g in
-    let left : before ++ ((row ++ (10 ∷ [])) ++ others) ≡ whole = ap (λ (x : List ℕ). before ++ x) (append_assoc row (10 ∷ []) others) ∙ ap (λ (k : ℕ). before ++ table_text (rows_in k columns rest)) (sym one) ∙ h in
-    ap (λ (x : List ℕ). after ++ table_text (rows_in (n - (i + 1)) columns x)) (drop_min columns end rest e) ∙ added before after (row ++ (10 ∷ [])) others whole here left
+    let left = table_text (rows_in (n - (i + 1)) columns others) in
+    let here : after ≡ before ++ (row_text row ++ (10 ∷ [])) = joined before between after (row_text row) (10 ∷ []) f g in
+    let whole_is : before ++ ((row_text row ++ (10 ∷ [])) ++ left) ≡ whole = rw (append_assoc (row_text row) (10 ∷ []) left, r ∙ ap (λ k. take k rest) e ∙ take_min columns rest, o ∙ ap (λ k. drop k rest) e ∙ drop_min columns rest) (rw one at h) in
+    added before after (row_text row ++ (10 ∷ [])) left whole here whole_is
 
 pub rows_end : (n i columns : ℕ) (rest before whole : List ℕ) → n ≤ i → before ++ table_text (rows_in (n - i) columns rest) ≡ whole → before ≡ whole
 unfolding table_text rows_in

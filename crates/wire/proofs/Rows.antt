@@ -1,12 +1,16 @@
 -- Rows one after the other: what one cell or one line more makes of what is read so far.
-use Rattle.std.proofs.Common.{◌≡◌, ℕ, suc, ◌+◌, ◌-◌, ◌<◌, ◌≤◌, Bool, true, false, cond, ◌||◌, eqb, List, [], ◌∷◌, ◌++◌, length, take, drop, Some, None, Ok, Err, Option, Result, sym, refl, ap, ◌∙◌, inl, inr, add-one, arith}
-use Rattle.std.proofs.lemmas.List.{append_assoc, append-nil, length-append, take_all, nil_from_length}
-use Rattle.std.proofs.lemmas.Bool.Decides.{nat_tests, leb_tells}
+use Rattle.std.proofs.Common.{◌≡◌, ℕ, ◌+◌, ◌-◌, ◌<◌, true, false, ◌||◌, eqb, List, [], ◌∷◌, ◌++◌, length, take, drop, Some, None, Ok, Err, Option, Result, Bor, sym, refl, ap, ◌∙◌, add-one, arith}
+use Rattle.std.proofs.lemmas.List.{append_assoc, append-nil, length-append, nil_from_length}
+use Rattle.std.proofs.lemmas.Bool.Decides.{nat_tests}
+use Rattle.std.proofs.lemmas.Iterator.{YieldsList}
+use Rattle.std.specs.Iterator.{AlwaysYields}
+use Rattle.std.specs.List.{slice_split}
 use Rattle.wire.specs.declared.tables.TableFault.{TableFault}
 use Rattle.wire.specs.declared.tables.TableFault.TheVariants.{Line, NoMemory}
 use Rattle.wire.specs.Tables.{lines, trimmed, pieces, cell_number, cell_numbers, line_row, Grid, row_more, next_row, rows_more, Told}
-use Rattle.wire.specs.Texts.{until, cells_behind, Pushed}
-use Rattle.wire.proofs.Splits.{lines_more, pieces_more, pieces_last}
+use Rattle.std.specs.Option.{option_map}
+use Rattle.wire.specs.Texts.{until, cells_behind, Pushed, Grown}
+use Rattle.wire.proofs.Splits.{lines_more, pieces_split}
 
 -- a line with something in it is its cells
 pub row-cells : (xs : List ℕ) → 0 < length xs → line_row xs ≡ cell_numbers (pieces xs)
@@ -32,24 +36,6 @@ cells_step cell others before n e = go (cell_numbers others) refl
 cells_stop : (cell : List ℕ) (others : List (List ℕ)) → cell_number cell ≡ None → cell_numbers (cell ∷ others) ≡ None
 unfolding cell_numbers
 cells_stop cell others e = rw e
-
-pub row_step : (xs before : List ℕ) (n : ℕ) → until 44 xs < length xs → cell_number (take (until 44 xs) xs) ≡ Some n
-    → cells_behind before (cell_numbers (pieces xs)) ≡ cells_behind (before ++ n ∷ []) (cell_numbers (pieces (drop (until 44 xs + 1) xs)))
-row_step xs before n h e =
-    rw (pieces_more xs h, add-one (until 44 xs)) (cells_step (take (until 44 xs) xs) (pieces (drop (suc (until 44 xs)) xs)) before n e)
-
-pub row_end : (xs before : List ℕ) (n : ℕ) → until 44 xs ≡ length xs → cell_number (take (until 44 xs) xs) ≡ Some n
-    → cells_behind before (cell_numbers (pieces xs)) ≡ Some (before ++ n ∷ [])
-unfolding cell_numbers
-row_end xs before n h e =
-    let f : cell_number xs ≡ Some n = ap cell_number (sym (take_all (until 44 xs) xs (omega arith))) ∙ e in
-    rw (pieces_last xs (omega arith)) (cells_step xs [] before n f ∙ ap Some (append-nil (before ++ n ∷ [])))
-
-pub row_stop : (xs before : List ℕ) → cell_number (take (until 44 xs) xs) ≡ None → cells_behind before (cell_numbers (pieces xs)) ≡ None
-row_stop xs before e = elim (leb_tells (length xs) (until 44 xs)) [
-  | inl k ↦ rw (pieces_last xs k.1) (ap (cells_behind before) (cells_stop xs [] (ap cell_number (sym (take_all (until 44 xs) xs k.1)) ∙ e)))
-  | inr k ↦ rw (pieces_more xs k.1) (ap (cells_behind before) (cells_stop (take (until 44 xs) xs) (pieces (drop (suc (until 44 xs)) xs)) e))
-]
 
 -- what stands behind the cells is known from them
 pub behind-none : (before : List ℕ) (o : Option (List ℕ)) → cells_behind before o ≡ None → o ≡ None
@@ -77,94 +63,102 @@ row_other : (g : Grid) (line row : List ℕ) → line_row (trimmed line) ≡ Som
 unfolding next_row
 row_other g line row e h n = let t : (eqb g.rows 0 || eqb (length row) g.columns) ≡ false = grind (arith, nat_tests) in rw (e, t)
 
-row-none : (g : Grid) (line : List ℕ) → line_row (trimmed line) ≡ None → next_row g line ≡ None
-unfolding next_row
-row-none g line e = rw e
-
-rows-fault : (g : Grid) (xs : List ℕ) → 0 < length xs → next_row g (take (until 10 xs) xs) ≡ None → rows_more g (lines xs) ≡ Err (g.rows + 1)
-unfolding rows_more
-rows-fault g xs h e = rw (lines_more xs h, e)
-
--- one line more, with so many cells as those before
-rows_row : (g : Grid) (xs row : List ℕ) → 0 < length xs → next_row g (take (until 10 xs) xs) ≡ Some row
-    → rows_more g (lines xs) ≡ rows_more (row_more g row) (lines (drop (until 10 xs + 1) xs))
-unfolding rows_more
-rows_row g xs row h e = rw (lines_more xs h, add-one (until 10 xs), e)
-
-pub rows_step : (g : Grid) (xs after : List ℕ) (width : ℕ) → 0 < length xs
-    → cells_behind g.cells (line_row (trimmed (take (until 10 xs) xs))) ≡ Some after
-    → width ≡ length after - length g.cells → (0 < g.rows → width ≡ g.columns)
-    → rows_more g (lines xs) ≡ rows_more (record { rows = g.rows + 1; columns = width; cells = after }) (lines (drop (until 10 xs + 1) xs))
-rows_step g xs after width h e w k = go (behind-some g.cells after (line_row (trimmed (take (until 10 xs) xs))) e)
+-- the next line has a row, with as many cells as those before
+pub grown_row : (g after : Grid) (line : List ℕ) → cells_behind g.cells (line_row (trimmed line)) ≡ Some after.cells
+    → after.columns ≡ length after.cells - length g.cells → after.rows ≡ g.rows + 1 → (0 < g.rows → after.columns ≡ g.columns)
+    → option_map (row_more g) (next_row g line) ≡ Some after
+grown_row g after line e w r k = go (behind-some g.cells after.cells (line_row (trimmed line)) e)
   where
-    go : Behind g.cells after (line_row (trimmed (take (until 10 xs) xs)))
-        → rows_more g (lines xs) ≡ rows_more (record { rows = g.rows + 1; columns = width; cells = after }) (lines (drop (until 10 xs + 1) xs))
+    go : Behind g.cells after.cells (line_row (trimmed line)) → option_map (row_more g) (next_row g line) ≡ Some after
     go b =
-        let l : width ≡ length b.row = omega (arith, w, b.long) in
-        rw (l, b.whole) (rows_row g xs b.row h (row_fits g (take (until 10 xs) xs) b.row b.is (λ z. sym l ∙ k z)))
+        let l : after.columns ≡ length b.row = omega (arith, w, b.long) in
+        ap (option_map (row_more g)) (row_fits g line b.row b.is (λ z. sym l ∙ k z)) ∙ rw (← b.whole, ← l, ← r) refl
 
--- a line with another count of cells, and one with a cell that is none
-pub rows-width : (g : Grid) (xs after : List ℕ) (width : ℕ) → 0 < length xs
-    → cells_behind g.cells (line_row (trimmed (take (until 10 xs) xs))) ≡ Some after
-    → width ≡ length after - length g.cells → 0 < g.rows → (width ≡ g.columns → ⊥) → rows_more g (lines xs) ≡ Err (g.rows + 1)
-rows-width g xs after width h e w k n =
-    let b = behind-some g.cells after (line_row (trimmed (take (until 10 xs) xs))) e in
+-- it has another count of cells, or a cell that is none
+pub grown_other : (g : Grid) (line after : List ℕ) (width : ℕ) → cells_behind g.cells (line_row (trimmed line)) ≡ Some after
+    → width ≡ length after - length g.cells → 0 < g.rows → (width ≡ g.columns → ⊥) → next_row g line ≡ None
+grown_other g line after width e w k n =
+    let b = behind-some g.cells after (line_row (trimmed line)) e in
     let l : width ≡ length b.row = omega (arith, w, b.long) in
-    rows-fault g xs h (row_other g (take (until 10 xs) xs) b.row b.is k (λ z. n (l ∙ z)))
+    row_other g line b.row b.is k (λ z. n (l ∙ z))
 
-pub rows-cell : (g : Grid) (xs : List ℕ) → 0 < length xs → line_row (trimmed (take (until 10 xs) xs)) ≡ None → rows_more g (lines xs) ≡ Err (g.rows + 1)
-rows-cell g xs h e = rows-fault g xs h (row-none g (take (until 10 xs) xs) e)
+pub grown_fault : (g after : Grid) (line row cells : List ℕ) (r : Result (Unit {0}) TableFault) (fault : TableFault) → row ≡ trimmed line → r ≡ Err fault
+    → Pushed (g.rows + 1) g.cells (line_row row) cells (Err fault) → Grown g (next_row g line) after r
+unfolding next_row
+grown_fault g after line row cells r (Line k) t e h = rw (e, ← t, h.0) (refl, h.1)
+grown_fault g after line row cells r NoMemory t e h = rw e tt
+
+-- a line more of a text, or one that has no row
+pub lines_step : (g after : Grid) (xs line others : List ℕ) (found : Result Grid ℕ) → 0 < length xs → line ≡ take (until 10 xs) xs → others ≡ drop (until 10 xs + 1) xs
+    → option_map (row_more g) (next_row g line) ≡ Some after → rows_more g (lines xs) ≡ found → rows_more after (lines others) ≡ found
+unfolding rows_more
+lines_step g after xs line others found h p q e inv = go (next_row g line) refl e
+  where
+    go : (o : Option (List ℕ)) → next_row g line ≡ o → option_map (row_more g) o ≡ Some after → rows_more after (lines others) ≡ found
+    go (Some row) n f =
+        let m : row_more g row ≡ after = cc f in
+        rw (← m, q) (sym (rw (lines_more xs h, ← p, n, add-one (until 10 xs)) refl) ∙ inv)
+    go None n f = absurd (let z : ◌≡◌ {A = ℕ} 0 1 = cc f in omega arith)
+
+pub lines_fault : (g : Grid) (xs line : List ℕ) (found : Result Grid ℕ) → 0 < length xs → line ≡ take (until 10 xs) xs → next_row g line ≡ None
+    → rows_more g (lines xs) ≡ found → found ≡ Err (g.rows + 1)
+unfolding rows_more
+lines_fault g xs line found h p e inv = sym inv ∙ rw (lines_more xs h, ← p, e) refl
+
+pub grown_rows : (g after : Grid) (row : Option (List ℕ)) → option_map (row_more g) row ≡ Some after → after.rows ≡ g.rows + 1
+grown_rows g after (Some row) e = let m : row_more g row ≡ after = cc e in rw (← m) refl
+grown_rows g after None e = absurd (let z : ◌≡◌ {A = ℕ} 0 1 = cc e in omega arith)
+
+pub told_fault : (g after : Grid) (xs line : List ℕ) (found : Result Grid ℕ) (fault : TableFault) → 0 < length xs → line ≡ take (until 10 xs) xs
+    → Grown g (next_row g line) after (Err fault) → rows_more g (lines xs) ≡ found → Told found (Err fault)
+told_fault g after xs line found (Line k) h p e inv = lines_fault g xs line found h p e.0 inv ∙ ap Err (sym e.1)
+told_fault g after xs line found NoMemory h p e inv = tt
 
 pub rows_end : (g : Grid) (xs : List ℕ) → length xs ≡ 0 → rows_more g (lines xs) ≡ Ok g
 unfolding rows_more lines
 rows_end g xs h = rw (nil_from_length xs h)
 
--- a push that found memory
-pub pushed_one : (b : Bool) (before after : List ℕ) (n : ℕ) → b ≡ true → after ≡ cond b (before ++ n ∷ []) before → after ≡ before ++ n ∷ []
-pushed_one b before after n t e = rw t at e
+-- the cells of a line that are still to come from an iterator, and those that were read, give the whole
+pub record CellsLeft {S : Type 0} (steps : S → Option (Bor (List ℕ)) → S → Type 0) (s : S) (cells : List ℕ) (whole : Option (List ℕ)) : Type 0 where
+  pub parts : List (List ℕ)
+  pub yields : YieldsList steps (λ x. x.now) s parts
+  pub same : cells_behind cells (cell_numbers parts) ≡ whole
 
--- the cells of a line: one that is none, the last, and one more
-pub line_stop : (line xs before cells : List ℕ) (end : ℕ) → 0 < length line → end ≡ until 44 xs → None ≡ cell_number (take end xs)
-    → cells_behind cells (cell_numbers (pieces xs)) ≡ cells_behind before (cell_numbers (pieces line)) → line_row line ≡ None
-line_stop line xs before cells end h p e inv =
-    row-cells line h ∙ behind-none before (cell_numbers (pieces line)) (sym inv ∙ row_stop xs cells (ap (λ k. cell_number (take k xs)) (sym p) ∙ sym e))
+module _ {S : Type 0} {steps : S → Option (Bor (List ℕ)) → S → Type 0} {s : S} where
+  pub cells_left : (line before : List ℕ) → 0 < length line → YieldsList steps (λ x. x.now) s (slice_split (λ b. eqb b 44) line)
+      → CellsLeft steps s before (cells_behind before (line_row line))
+  cells_left line before h y =
+      record { parts = slice_split (λ b. eqb b 44) line; yields = y; same = ap (cells_behind before) (ap cell_numbers (sym (pieces_split line)) ∙ sym (row-cells line h)) }
 
-pub line_end : (line xs before cells after : List ℕ) (end n : ℕ) → 0 < length line → end ≡ until 44 xs → end ≡ length xs
-    → Some n ≡ cell_number (take end xs) → after ≡ cells ++ n ∷ []
-    → cells_behind cells (cell_numbers (pieces xs)) ≡ cells_behind before (cell_numbers (pieces line)) → cells_behind before (line_row line) ≡ Some after
-line_end line xs before cells after end n h p l e a inv =
-    rw (row-cells line h, a) (sym inv ∙ row_end xs cells n (sym p ∙ l) (ap (λ k. cell_number (take k xs)) (sym p) ∙ sym e))
+  -- the next cell is a number, or none; and none is left
+  pub cells_more : (t : S) (x : Bor (List ℕ)) (cells after : List ℕ) (whole : Option (List ℕ)) (n : ℕ) → CellsLeft steps s cells whole → steps s (Some x) t
+      → cell_number x.now ≡ Some n → after ≡ cells ++ n ∷ [] → CellsLeft steps t after whole
+  cells_more t x cells after whole n l k e a = go l.parts l.yields.runs l.same
+    where
+      go : (ps : List (List ℕ)) → AlwaysYields steps (λ y. y.now) s ps → cells_behind cells (cell_numbers ps) ≡ whole → CellsLeft steps t after whole
+      go [] y q = absurd (y x t k)
+      go (p ∷ ps) y q =
+          let m = y.1 x t k in
+          record { parts = ps; yields = record { runs = m.1 }; same = rw a (sym (cells_step p ps cells n (ap cell_number (sym m.0) ∙ e)) ∙ q) }
 
-pub line-more : (line xs others before cells after : List ℕ) (end n : ℕ) → end ≡ until 44 xs → end < length xs
-    → Some n ≡ cell_number (take end xs) → after ≡ cells ++ n ∷ [] → others ≡ drop (end + 1) xs
-    → cells_behind cells (cell_numbers (pieces xs)) ≡ cells_behind before (cell_numbers (pieces line))
-    → cells_behind after (cell_numbers (pieces others)) ≡ cells_behind before (cell_numbers (pieces line))
-line-more line xs others before cells after end n p l e a o inv =
-    rw (a, o, p) (sym (row_step xs cells n (omega arith) (ap (λ k. cell_number (take k xs)) (sym p) ∙ sym e)) ∙ inv)
+  pub cells_fault : (t : S) (x : Bor (List ℕ)) (cells before : List ℕ) (row : Option (List ℕ)) → CellsLeft steps s cells (cells_behind before row) → steps s (Some x) t
+      → cell_number x.now ≡ None → row ≡ None
+  cells_fault t x cells before row l k e = go l.parts l.yields.runs l.same
+    where
+      go : (ps : List (List ℕ)) → AlwaysYields steps (λ y. y.now) s ps → cells_behind cells (cell_numbers ps) ≡ cells_behind before row → row ≡ None
+      go [] y q = absurd (y x t k)
+      go (p ∷ ps) y q =
+          let m = y.1 x t k in
+          behind-none before row (sym q ∙ ap (cells_behind cells) (cells_stop p ps (ap cell_number (sym m.0) ∙ e)))
 
--- the same for the lines of a text
-pub table_more : (g : Grid) (xs others line after : List ℕ) (end width : ℕ) (found : Result Grid ℕ) → 0 < length xs → end ≡ until 10 xs
-    → line ≡ trimmed (take end xs) → cells_behind g.cells (line_row line) ≡ Some after → width ≡ length after - length g.cells
-    → (0 < g.rows → width ≡ g.columns) → others ≡ drop (end + 1) xs → rows_more g (lines xs) ≡ found
-    → rows_more (record { rows = g.rows + 1; columns = width; cells = after }) (lines others) ≡ found
-table_more g xs others line after end width found h p q e w k o inv =
-    let l : line ≡ trimmed (take (until 10 xs) xs) = q ∙ ap (λ n. trimmed (take n xs)) p in
-    rw (o, p) (sym (rows_step g xs after width h (rw l at e) w k) ∙ inv)
+  pub cells_done : (t : S) (cells : List ℕ) (whole : Option (List ℕ)) → CellsLeft steps s cells whole → steps s None t → whole ≡ Some cells
+  unfolding cell_numbers
+  cells_done t cells whole l k = go l.parts l.yields.runs l.same
+    where
+      go : (ps : List (List ℕ)) → AlwaysYields steps (λ y. y.now) s ps → cells_behind cells (cell_numbers ps) ≡ whole → whole ≡ Some cells
+      go [] y q = sym q ∙ ap Some (append-nil cells)
+      go (p ∷ ps) y q = absurd (y.0 t k)
 
-pub table-width : (g : Grid) (xs line after : List ℕ) (end width : ℕ) (found : Result Grid ℕ) → 0 < length xs → end ≡ until 10 xs
-    → line ≡ trimmed (take end xs) → cells_behind g.cells (line_row line) ≡ Some after → width ≡ length after - length g.cells
-    → 0 < g.rows → (width ≡ g.columns → ⊥) → rows_more g (lines xs) ≡ found → found ≡ Err (g.rows + 1)
-table-width g xs line after end width found h p q e w k n inv =
-    let l : line ≡ trimmed (take (until 10 xs) xs) = q ∙ ap (λ n. trimmed (take n xs)) p in
-    sym inv ∙ rows-width g xs after width h (rw l at e) w k n
-
-pub table_fault : (g : Grid) (xs line after : List ℕ) (end : ℕ) (found : Result Grid ℕ) (fault : TableFault) → 0 < length xs → end ≡ until 10 xs
-    → line ≡ trimmed (take end xs) → Pushed (g.rows + 1) g.cells (line_row line) after (Err fault) → rows_more g (lines xs) ≡ found
-    → Told found (Err fault)
-table_fault g xs line after end found (Line k) h p q e inv =
-    let l : line ≡ trimmed (take (until 10 xs) xs) = q ∙ ap (λ n. trimmed (take n xs)) p in
-    sym inv ∙ rows-cell g xs h (ap line_row (sym l) ∙ e.0) ∙ ap Err (sym e.1)
-table_fault g xs line after end found NoMemory h p q e inv = tt
-
-pub behind_longer : (before after : List ℕ) (o : Option (List ℕ)) → cells_behind before o ≡ Some after → length before ≤ length after
-behind_longer before after o e = let b = behind-some before after o e in omega (arith, b.long)
+pub pushed_fault : (at : ℕ) (before : List ℕ) (row : Option (List ℕ)) (after : List ℕ) (r : Result (Unit {0}) TableFault) (e : TableFault) → r ≡ Err e → e ≡ Line at → row ≡ None
+    → Pushed at before row after r
+pushed_fault at before row after r e p q n = rw (p, q) (n, refl)

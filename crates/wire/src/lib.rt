@@ -32,12 +32,8 @@ pub fn read_request(bytes: &[u8]) -> Result<Request, Refusal>
 {
     let short = Refusal::CutShort(bytes.len() as u64);
     let mut reader = Reader { rest: bytes };
-    let Some(reports) = reader.reports() else {
-        return Err(short);
-    };
-    let Some(question) = reader.question() else {
-        return Err(short);
-    };
+    let reports = reader.reports().ok_or(short)?;
+    let question = reader.question().ok_or(short)?;
     Ok(Request { reports, question })
 }
 
@@ -48,9 +44,6 @@ pub fn read_question(bytes: &[u8]) -> Result<[u64; 50], Refusal>
         (λ refusal. (question_of bytes.now ≡ None) × (refusal ≡ CutShort (length bytes.now))) }
     ensures size { IfOk result (λ numbers. length numbers ≡ 50) }
 {
-    let mut reader = Reader { rest: bytes };
-    let Some(question) = reader.question() else {
-        return Err(Refusal::CutShort(bytes.len() as u64));
-    };
-    Ok(question)
+    let short = Refusal::CutShort(bytes.len() as u64);
+    Reader { rest: bytes }.question().ok_or(short)
 }

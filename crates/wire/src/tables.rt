@@ -1,9 +1,10 @@
 // Tables in text: one row a line, its cells decimal numbers with commas between them.
-ghost use Rattle.std.specs.Prelude.{◌≡◌, ◌+◌, ◌*◌, ◌≤◌, length, drop, IfOk, vec_len};
-ghost use Rattle.wire.specs.Tables.{trimmed, digit_more, cell_number, line_row, table_of, Told};
-ghost use Rattle.wire.specs.Texts.{until, Pushed};
+ghost use Rattle.std.specs.Prelude.{◌≡◌, ◌-◌, ◌*◌, ◌^◌, ◌<◌, IfOk, vec_len};
+ghost use Rattle.wire.specs.Tables.{digit_more, cell_number, line_row, grid, next_row, table_of, Told};
+ghost use Rattle.wire.specs.Texts.{before_end, Pushed, Grown};
+ghost use Rattle.wire.specs.declared.tables.TableFault.TheVariants.{NoMemory};
 
-use std::alloc::Global;
+use std::alloc::{AllocFailed, Global};
 
 #[derive(Drop)]
 pub struct Table {
@@ -21,52 +22,29 @@ pub enum TableFault {
     NoMemory,
 }
 
-// How many bytes stand before the first such one, or all where there is none.
-fn place_of(text: &[u8], byte: u8) -> usize
-    ensures place { result ≡ until byte text.now }
-    ensures within { result ≤ length text.now }
-{
-    for (i, b) in text.iter().enumerate() {
-        if *b == byte {
-            return i;
-        }
-    }
-    text.len()
-}
+impl<T: Drop> From<AllocFailed<T>> for TableFault {
+    ghost from_gives = { λ _ fault. fault ≡ NoMemory };
 
-// What is left behind a place and the byte there, if one is there.
-fn behind(text: &[u8], place: usize) -> &[u8]
-    ensures { result.now ≡ drop (place + 1) text.now }
-{
-    if place < text.len() {
-        &text[place + 1..]
-    } else {
-        &[]
+    fn from(_refused: AllocFailed<T>) -> TableFault {
+        TableFault::NoMemory
     }
 }
 
-// A carriage return right before the line's end is not of the line.
-fn without_return(line: &[u8]) -> &[u8]
-    ensures { result.now ≡ trimmed line.now }
+// A line without the byte that may stand at its end.
+fn without(line: &[u8], end: u8) -> &[u8]
+    ensures { result.now ≡ before_end end line.now }
 {
-    let end = line.len();
-    if end > 0 && line[end - 1] == b'\r' {
-        &line[..end - 1]
-    } else {
-        line
-    }
+    line.strip_suffix(&[end]).unwrap_or(line)
 }
 
-fn with_digit(n: u64, digit: u8) -> Option<u64>
-    ensures { result ≡ digit_more n digit }
+fn with_digit(n: u64, byte: u8) -> Option<u64>
+    ensures { result ≡ digit_more n byte }
 {
-    if !digit.is_ascii_digit() {
-        return None;
-    }
-    n.checked_mul(10)?.checked_add(u64::from(digit - b'0'))
+    let digit = char::from(byte).to_digit(10)?;
+    n.checked_mul(10)?.checked_add(u64::from(digit))
 }
 
-// Reads a decimal number below 2^64.
+// Reads a decimal number below 2^64. (The library's `parse` would take a plus sign too.)
 pub fn read_number(cell: &[u8]) -> Option<u64>
     ensures { result ≡ cell_number cell.now }
 {
@@ -74,8 +52,8 @@ pub fn read_number(cell: &[u8]) -> Option<u64>
         return None;
     }
     let mut n = 0;
-    for digit in cell {
-        n = with_digit(n, *digit)?;
+    for byte in cell {
+        n = with_digit(n, *byte)?;
     }
     Some(n)
 }
@@ -87,19 +65,29 @@ fn push_row(cells: &mut Vec<u64>, line: &[u8], at: u64) -> Result<(), TableFault
     if line.is_empty() {
         return Ok(());
     }
-    let mut rest = line;
-    loop {
-        let end = place_of(rest, b',');
-        let Some(n) = read_number(&rest[..end]) else {
-            return Err(TableFault::Line(at));
-        };
-        if cells.push(n).is_err() {
-            return Err(TableFault::NoMemory);
+    for cell in line.split(|byte| *byte == b',') {
+        cells.push(read_number(cell).ok_or(TableFault::Line(at))?)?;
+    }
+    Ok(())
+}
+
+impl Table {
+    // Puts the row of the next line behind the others. A carriage return right before the line's end is not of the line.
+    // Where the line is at fault, some of its cells may stand there.
+    fn push_line(&mut self, line: &[u8]) -> Result<(), TableFault>
+        requires { self.old.rows < 2 ^ 64 - 1 }
+        ensures { Grown (grid self.old) (next_row (grid self.old) (before_end 10 line.now)) (grid self.new) result }
+    {
+        let before = self.cells.len();
+        let row = without(without(line, b'\n'), b'\r');
+        push_row(&mut self.cells, row, self.rows + 1)?;
+        let width = (self.cells.len() - before) as u64;
+        if self.rows > 0 && width != self.columns {
+            return Err(TableFault::Line(self.rows + 1));
         }
-        if end == rest.len() {
-            return Ok(());
-        }
-        rest = behind(rest, end);
+        self.rows += 1;
+        self.columns = width;
+        Ok(())
     }
 }
 
@@ -108,26 +96,13 @@ pub fn read_table(heap: Global, text: &[u8]) -> Result<Table, TableFault>
     ensures told { Told (table_of text.now) result }
     ensures size { IfOk result (λ table. vec_len table.cells ≡ table.rows * table.columns) }
 {
-    let mut rows = 0;
-    let mut columns = 0;
-    let mut cells = Vec::new(heap);
-    let mut rest = text;
-    while !rest.is_empty() {
-        let end = place_of(rest, b'\n');
-        let before = cells.len();
-        push_row(&mut cells, without_return(&rest[..end]), rows + 1)?;
-        let width = (cells.len() - before) as u64;
-        let other = rows > 0 && width != columns;
-        if other {
-            return Err(TableFault::Line(rows + 1));
-        }
-        rows += 1;
-        columns = width;
-        rest = behind(rest, end);
+    let mut table = Table {
+        rows: 0,
+        columns: 0,
+        cells: Vec::new(heap),
+    };
+    for line in text.split_inclusive(|byte| *byte == b'\n') {
+        table.push_line(line)?;
     }
-    Ok(Table {
-        rows,
-        columns,
-        cells,
-    })
+    Ok(table)
 }

@@ -1,50 +1,35 @@
-use Rattle.std.proofs.Common.{◌≡◌, length, vec_items, sym, refl, subst, rules}
-use Rattle.question.specs.Layout.{question_in}
-use Rattle.question.specs.Tables.{tables_in}
-use Rattle.join.specs.RowsOut.{PutOut}
-use Rattle.answer.specs.declared.reply.Answer.TheVariants.{Refused}
-use Rattle.answer.specs.Laws.{Copied, asked_by}
+use Rattle.std.proofs.Common.{rules, ◌≡◌, length, vec_items}
+use Rattle.question.specs.Lent.{question_of}
+use Rattle.answer.specs.Lent.{base_of}
+use Rattle.answer.specs.Laws.{Copied}
 use Rattle.answer.specs.Planning.{plan_in}
 use Rattle.answer.specs.Answered.{Meant}
+use Rattle.answer.proofs.TableTurns.{base-is}
 use Rattle.answer.proofs.Gathered.{copied_by}
 use Rattle.answer.proofs.Refusing.{refused}
-use Rattle.answer.proofs.RowsMeant.{all_rows, no_room}
+use Rattle.answer.proofs.RowsMeant.{meant}
 use Rattle.answer.proofs.answering.answer.Goals as goal
 
-pub returns-in_default : goal.returns-in_default
+pub returns-in_err-question : goal.returns-in_err-question
 unfolding Meant
-returns-in_default c =
-    let told : c.refused_by.result ≡ Refused c.in_default.field-0 = rw c.in_default.is at c.refused_by.ensures in
-    subst (Meant c.args.question.now c.args.tables.now c.args.out.now c.args.out.now) (sym told) (refused c.args.question.now c.args.tables.now c.args.out.now c.in_default.field-0 c.in_default.ensures)
+returns-in_err-question c =
+    let told = refused _ c.args.tables.now c.args.out.now _ c.in_err-question.ensures in
+    search (rules, told)
 
-pub returns-in_default-copy_tables : goal.returns-in_default-copy_tables
+pub returns-in_err-rows : goal.returns-in_err-rows
 unfolding Meant
-returns-in_default-copy_tables c = (c.in-Ok.ensures.0, refl)
+returns-in_err-rows c =
+    let told = c.in_ok-question.ensures.0 in
+    search (rules, told)
 
-pub returns-in_default-put_rows : goal.returns-in_default-put_rows
-unfolding Meant
-returns-in_default-put_rows c = (c.in-Ok.ensures.0, c.in_default-put_rows.ensures)
-
-pub returns-in-Ok-put : goal.returns-in-Ok-put
-unfolding Meant
-returns-in-Ok-put c =
-    let q = question_in c.args.question.now in
-    let b = tables_in c.args.tables.now in
-    let p = plan_in c.plan-plan.result in
-    let rows = vec_items c.in-Ok-copy_tables.rows in
-    let k : Copied b q p rows = copied_by b q p rows (λ i h. (c.plan-plan.ensures.planned.line i h).few) c.in-Ok-copy_tables.ensures in
+pub returns : goal.returns
+returns c =
+    let t = c.in_ok-question.ensures in
+    let b = base_of c.in_ok-question.tables in
+    let q = question_of c.in_ok-question.question in
+    let p = plan_in c.of-plan.result in
+    let rows = vec_items c.in_ok-rows.rows in
+    let planned = c.of-plan.ensures.planned in
+    let k : Copied b q p rows = copied_by b q p rows (λ i h. (planned.line i h).few) (rw c.deref.ensures.0 at c.in_ok-rows.ensures) in
     let long : length c.put_rows.new.out ≡ length c.args.out.now = search rules in
-    let h = subst (PutOut (asked_by p rows) c.args.out.now c.put_rows.new.out) c.in-Ok-put.is c.in-Ok-put_rows.ensures in
-    (c.in-Ok.ensures.0, all_rows b q p rows c.plan-plan.ensures.planned k c.args.out.now c.put_rows.new.out c.in-Ok-put.count long h.0 h.1)
-
-pub returns-in-Err : goal.returns-in-Err
-unfolding Meant
-returns-in-Err c =
-    let q = question_in c.args.question.now in
-    let b = tables_in c.args.tables.now in
-    let p = plan_in c.plan-plan.result in
-    let rows = vec_items c.in-Ok-copy_tables.rows in
-    let k : Copied b q p rows = copied_by b q p rows (λ i h. (c.plan-plan.ensures.planned.line i h).few) c.in-Ok-copy_tables.ensures in
-    let long : length c.put_rows.new.out ≡ length c.args.out.now = search rules in
-    let h = subst (PutOut (asked_by p rows) c.args.out.now c.put_rows.new.out) c.in-Err.is c.in-Ok-put_rows.ensures in
-    (c.in-Ok.ensures.0, no_room b q p rows c.plan-plan.ensures.planned k c.args.out.now c.put_rows.new.out c.in-Err.count long h.0 h.1)
+    meant c.args.question.now c.args.tables.now b q t.0 (base-is c.args.tables.now _ _ t.2 t.3) t.1 p rows planned k c.args.out.now c.put_rows.new.out long c.put_rows.result c.put_rows.ensures

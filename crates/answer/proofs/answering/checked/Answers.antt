@@ -1,20 +1,39 @@
-use Rattle.std.proofs.Common.{get_or, arith}
+use Rattle.std.proofs.Common.{rules, arith, ◌≡◌, None, Ok, Err}
 use Rattle.std.proofs.lemmas.Bool.Decides.{nat_tests}
+use Rattle.question.specs.Check.{cut_short}
 use Rattle.answer.specs.Answered.{answer_refusal}
-use Rattle.answer.proofs.Refusing.{by-tables}
+use Rattle.answer.proofs.TableTurns.{large-told}
+use Rattle.answer.proofs.Refusing.{by_short, by_question, by_tables}
 use Rattle.answer.proofs.answering.checked.Goals as goal
 
 pub returns-then-question-lt50 : goal.returns-then-question-lt50
 unfolding answer_refusal
 returns-then-question-lt50 c = grind (arith, nat_tests)
 
-pub returns-then-not-whole : goal.returns-then-not-whole
-unfolding answer_refusal
-returns-then-not-whole c = grind (arith, nat_tests)
+pub returns-in_err-tables : goal.returns-in_err-tables
+returns-in_err-tables c =
+    let long : cut_short c.args.question.now ≡ None = grind (arith, nat_tests) in
+    let told = by_short _ c.args.tables.now long _ c.in_err-tables.ensures in
+    search (rules, told)
 
-pub returns-in_default : goal.returns-in_default
-unfolding answer_refusal
-returns-in_default c = simp c.in_default.is (grind (arith, nat_tests))
+pub returns-in_err-question : goal.returns-in_err-question
+returns-in_err-question c =
+    let long : cut_short c.args.question.now ≡ None = grind (arith, nat_tests) in
+    let told = by_question _ c.args.tables.now long _ c.in_ok-tables.ensures.0 c.in_err-question.ensures.told in
+    search (rules, told)
+
+pub returns-in_err-small : goal.returns-in_err-small
+returns-in_err-small c =
+    let long : cut_short c.args.question.now ≡ None = grind (arith, nat_tests) in
+    let t = c.in_ok-tables.ensures in
+    let large = large-told c.args.tables.now (Err c.in_err-small.field-0.0) _ _ t.0 t.1 t.2 c.in_err-small.ensures in
+    let told = by_tables _ c.args.tables.now long _ t.0 c.in_ok-question.ensures.told.0 large in
+    search (rules, told)
 
 pub returns : goal.returns
-returns c = by-tables c.args.question.now c.args.tables.now c.check_tables.result (get_or c.args.tables.now 0 0) (grind (arith, nat_tests)) (grind (arith, nat_tests)) c.in-Ok.ensures.told.0 c.check_tables.ensures
+returns c =
+    let long : cut_short c.args.question.now ≡ None = grind (arith, nat_tests) in
+    let t = c.in_ok-tables.ensures in
+    let q = c.in_ok-question.ensures.told in
+    let large = large-told c.args.tables.now (Ok c.in_ok-small.field-0) _ _ t.0 t.1 t.2 c.in_ok-small.ensures in
+    (by_tables _ c.args.tables.now long _ t.0 q.0 large.0, q.1, t.1, t.2)

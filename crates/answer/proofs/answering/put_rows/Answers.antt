@@ -1,36 +1,20 @@
-use Rattle.std.proofs.Common.{vec_items, sym, subst}
-use Rattle.join.specs.Order.{Sorted}
-use Rattle.join.specs.FirstValues.{AllBelow, Covered}
-use Rattle.join.specs.RowsOut.{PutOut}
-use Rattle.narrow.specs.Narrowed.{Narrowed, asked}
-use Rattle.narrow.proofs.AnswersSame.{put-out-same}
+use Rattle.std.proofs.Common.{vec_items, Ok, Err}
 use Rattle.answer.specs.Planning.{plan_in}
+use Rattle.answer.proofs.Narrowing.{still-joined, put-same}
 use Rattle.answer.proofs.answering.put_rows.Goals as goal
 
-pub put_out-put-requires : goal.put_out-put-requires
-put_out-put-requires c =
-    let p = plan_in c.args.plan.now in
-    let rows = vec_items c.in_ok-left.left in
-    let lines = vec_items c.narrow.new.lines in
-    let m : Narrowed p.n p.shown p.k p.env (vec_items c.args.rows) p.lines rows lines =
-    subst (λ ls. Narrowed p.n p.shown p.k p.env (vec_items c.args.rows) ls rows lines) c.in_ok-lines.ensures.items c.in_ok-left.ensures.1 in
-    record {
-      table = (
-        subst Sorted (sym c.deref.ensures.value) c.in_ok-left.ensures.0,
-        (subst (AllBelow p.n) (sym c.deref-2.ensures.value) m.below, subst (λ ls. Covered ls p.k p.shown) (sym c.deref-2.ensures.value) (m.covered c.requires.covered)),
-      );
-      counts = (c.requires.k_shown, (c.requires.room, (c.requires.shown_n, c.requires.blank)));
-      asked = (c.requires.shows, c.requires.row_shown);
-    }
+pub invariant_of-join : goal.invariant_of-join
+invariant_of-join c =
+    let s = still-joined (plan_in c.args.plan.now) c.requires (vec_items c.args.rows) (vec_items c.in_ok-left.left) (vec_items c.narrow.new.lines) (vec_items c.in_ok-lines.lines) c.in_ok-lines.ensures c.in_ok-left.ensures.1
+    c.deref.result.now c.deref-2.result.now c.deref.ensures.value c.deref-2.ensures.value c.in_ok-left.ensures.0 in
+    record { sorted = s.0; below = s.1; covered = ∣ s.2 ∣₁; inside = c.requires.shown_n; blank = c.requires.blank }
+
+pub returns-in-Ok : goal.returns-in-Ok
+returns-in-Ok c =
+    put-same (plan_in c.args.plan.now) c.requires (vec_items c.args.rows) (vec_items c.in_ok-left.left) (vec_items c.narrow.new.lines) (vec_items c.in_ok-lines.lines) c.in_ok-lines.ensures c.in_ok-left.ensures.1
+    c.deref.result.now c.deref-2.result.now c.deref-3.result.now c.deref.ensures.value c.deref-2.ensures.value c.deref-3.ensures.0 c.args.out.now c.put_out.new.out (Ok c.in-Ok.count) c.in-Ok.ensures
 
 pub returns : goal.returns
 returns c =
-    let p = plan_in c.args.plan.now in
-    let rows = vec_items c.in_ok-left.left in
-    let lines = vec_items c.narrow.new.lines in
-    let m : Narrowed p.n p.shown p.k p.env (vec_items c.args.rows) p.lines rows lines =
-    subst (λ ls. Narrowed p.n p.shown p.k p.env (vec_items c.args.rows) ls rows lines) c.in_ok-lines.ensures.items c.in_ok-left.ensures.1 in
-    let put : PutOut (asked p.k p.env p.row rows lines) c.args.out.now c.put_out-put.new.out c.put_out-put.result =
-    subst (λ ls. PutOut (asked p.k p.env p.row rows ls) c.args.out.now c.put_out-put.new.out c.put_out-put.result) c.deref-2.ensures.value
-    (subst (λ rs. PutOut (asked p.k p.env p.row rs c.deref-2.result.now) c.args.out.now c.put_out-put.new.out c.put_out-put.result) c.deref.ensures.value c.put_out-put.ensures) in
-    put-out-same p.k p.env p.row (vec_items c.args.rows) p.lines rows lines (m.same p.row c.requires.row_shown) c.args.out.now c.put_out-put.new.out c.put_out-put.result put
+    put-same (plan_in c.args.plan.now) c.requires (vec_items c.args.rows) (vec_items c.in_ok-left.left) (vec_items c.narrow.new.lines) (vec_items c.in_ok-lines.lines) c.in_ok-lines.ensures c.in_ok-left.ensures.1
+    c.deref.result.now c.deref-2.result.now c.deref-3.result.now c.deref.ensures.value c.deref-2.ensures.value c.deref-3.ensures.0 c.args.out.now c.put_out.new.out (Err c.in-Err.field-0) c.in-Err.ensures

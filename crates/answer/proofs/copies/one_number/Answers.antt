@@ -1,22 +1,26 @@
-use Rattle.std.proofs.Common.{◌≡◌, get_or, sym, ◌∙◌, arith}
-use Rattle.question.specs.Layout.{line_in}
-use Rattle.answer.proofs.Takings.{number-next, variable-next, variable-stop, one_number_end}
+use Rattle.std.proofs.Common.{rules, tests, ◌≡◌, ◌∙◌, sym, inl, inr}
+use Rattle.question.specs.declared.terms.Term.TheVariants.{Variable}
+use Rattle.answer.proofs.Takings.{number_stop, number_next, number_end, number_no_cell}
 use Rattle.answer.proofs.copies.one_number.Goals as goal
-use Rattle.answer.proofs.copies.one_number.Goals.{else-y-x-via-then-y-x+else-row-i, else-y-x-via-else-y-x}
+use Rattle.answer.proofs.copies.one_number.Goals.{else-eq-via-then-eq+else-cell-number, else-eq-via-else-eq}
 
-pub loop-i-preserved-in_default : goal.loop-i-preserved-in_default
-loop-i-preserved-in_default c =
-    sym (number-next c.args.x c.args.number c.loop-i.i (line_in c.args.line.now).cells c.args.row.now (omega arith) c.in_default.field-0 c.in_default.ensures) ∙ c.loop-i.invariant
+pub returns-then-cell-number : goal.returns-then-cell-number
+returns-then-cell-number c =
+    let s = c.in-Some.ensures.steps in
+    let e : c.in-Some.term.now ≡ Variable c.args.x = search (rules, tests) in
+    sym (number_stop c.args.x c.args.number _ _ _ _ _ (rw e at s.0) s.1 c.if-cell-number.true) ∙ c.loop-term.invariant.2
 
-pub returns-then-row-i : goal.returns-then-row-i
-returns-then-row-i c =
-    sym (variable-stop c.args.x c.args.number c.loop-i.i (line_in c.args.line.now).cells c.args.row.now (omega arith) c.in-Variable.y c.in-Variable.ensures (omega arith) c.if-row-i.true) ∙ c.loop-i.invariant
-
-pub loop-i-preserved : goal.loop-i-preserved
-loop-i-preserved c =
-    let same : c.in-Variable.y ≡ c.args.x → get_or c.args.row.now c.loop-i.i 0 ≡ c.args.number =
-    elim c.else-y-x.branch [ else-y-x-via-then-y-x+else-row-i w ↦ (λ e. omega (arith, w.if-row-i.false)) | else-y-x-via-else-y-x w ↦ (λ e. absurd (w.if-y-x.false e)) ] in
-    sym (variable-next c.args.x c.args.number c.loop-i.i (line_in c.args.line.now).cells c.args.row.now (omega arith) c.in-Variable.y c.in-Variable.ensures same) ∙ c.loop-i.invariant
+pub loop-term-preserved : goal.loop-term-preserved
+loop-term-preserved c =
+    let s = c.in-Some.ensures.steps in
+    let go : c.in-Some.term.now ≡ Variable c.args.x → c.in-Some.cell.now ≡ c.args.number = λ e. (elim c.else-eq.branch [
+      | else-eq-via-then-eq+else-cell-number w ↦ w.if-cell-number.false
+      | else-eq-via-else-eq w ↦ (let h = w.if-eq.false in let i = c.eq.ensures in search (rules, tests))
+    ]) in
+    (search rules, search rules, sym (number_next c.args.x c.args.number _ _ _ _ _ _ s.0 s.1 go) ∙ c.loop-term.invariant.2)
 
 pub returns : goal.returns
-returns c = sym (one_number_end c.args.x c.args.number c.loop-i.i (line_in c.args.line.now).cells c.args.row.now (omega arith)) ∙ c.loop-i.invariant
+returns c = elim c.in-None.ensures.steps [
+  | inl p ↦ sym (number_end c.args.x c.args.number _ _ p.1.0) ∙ c.loop-term.invariant.2
+  | inr p ↦ sym (number_no_cell c.args.x c.args.number _ _ p.1.0) ∙ c.loop-term.invariant.2
+]

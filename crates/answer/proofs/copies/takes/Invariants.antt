@@ -1,7 +1,9 @@
-use Rattle.std.proofs.Common.{◌≡◌, drop}
-use Rattle.question.specs.Layout.{line_in}
+use Rattle.std.proofs.Common.{◌≡◌, length}
 use Rattle.answer.specs.Taking.{takes}
 use Rattle.answer.proofs.copies.takes.Given as goal
 
-abbrev pub invariant-loop-i : goal.invariant-loop-i
-invariant-loop-i l = takes (drop l.i (line_in l.line).cells) (drop l.i l.row) ≡ takes (line_in l.line).cells l.row
+abbrev pub invariant-loop-cell : goal.invariant-loop-cell
+invariant-loop-cell l = takes l.terms l.cells ≡ takes l.fn.terms l.row
+
+abbrev pub decreases-loop-cell : goal.decreases-loop-cell
+decreases-loop-cell l = length l.cells

@@ -1,18 +1,15 @@
 use Rattle.std.proofs.Common.{sym, ◌∙◌, arith}
-use Rattle.std.proofs.lemmas.Bool.Decides.{nat_tests}
 use Rattle.answer.proofs.TableTurns.{there-next, there_stop, there_end}
 use Rattle.answer.proofs.tables.all_there.Goals as goal
 
-pub returns-then-not-there : goal.returns-then-not-there
-returns-then-not-there c = sym (there_stop c.args.n c.loop-i._i c.loop-i.rest.now (omega arith) (grind (arith, nat_tests))) ∙ c.loop-i.invariant
+pub returns-in_default : goal.returns-in_default
+returns-in_default c = sym (there_stop c.args.count c.loop.counter c.loop.rest.now (omega arith) (omega (arith, c.in_default.ensures))) ∙ c.loop.invariant
 
-pub behind_first-rest-requires : goal.behind_first-rest-requires
-behind_first-rest-requires c = grind (arith, nat_tests)
-
-pub loop-i-preserved : goal.loop-i-preserved
-loop-i-preserved c =
-    let rest = c.behind_first-rest.ensures in
-    rw rest (sym (there-next c.args.n c.loop-i._i c.loop-i.rest.now (omega arith) (grind (arith, nat_tests))) ∙ c.loop-i.invariant)
+pub loop-preserved : goal.loop-preserved
+loop-preserved c =
+    let e = c.in-Some.ensures in
+    let there = c.in-Some.table.there in
+    rw (c.behind-rest.ensures, e) (sym (there-next c.args.count c.loop.counter c.loop.rest.now (omega arith) (rw e at there)) ∙ c.loop.invariant)
 
 pub returns : goal.returns
-returns c = sym (there_end c.args.n c.loop-i._i c.loop-i.rest.now (omega arith)) ∙ c.loop-i.invariant
+returns c = sym (there_end c.args.count c.loop.counter c.loop.rest.now (omega arith)) ∙ c.loop.invariant

@@ -1,27 +1,19 @@
-use Rattle.std.proofs.Common.{◌≡◌, length, sym, ◌∙◌, arith}
-use Rattle.question.specs.Layout.{line_in, lines_in}
-use Rattle.question.proofs.Decoding.{length-lines_in}
+use Rattle.std.proofs.Common.{sym, ◌∙◌, refl}
+use Rattle.question.specs.Lent.{line_of, lines_of}
 use Rattle.containment.specs.Coding.{part_of}
-use Rattle.containment.proofs.Lent.{next-line, next_fits}
 use Rattle.containment.proofs.Placed.{placed_next, placed_stop, placed_end}
 use Rattle.containment.proofs.ahead.all_placed.Goals as goal
 
-pub has_place-placed-requires : goal.has_place-placed-requires
-has_place-placed-requires c =
-    let g = next_fits 16 c.args.n c.loop-k.k c.args.from.now c.nth_line.result.now (omega arith) c.requires.fit.0 c.nth_line.ensures.part in
-    record { lent = (c.nth_line.ensures.ten, c.requires.lent.1); fit = (g, c.requires.fit.1) }
+pub loop-line-init : goal.loop-line-init
+loop-line-init g c = (tt, tt, rw c.into_iter-line-iterator.ensures.into_iter_gives refl)
 
-pub returns-then-not-placed : goal.returns-then-not-placed
-returns-then-not-placed c =
-    let next = next-line 16 c.args.n c.loop-k.k c.args.from.now c.nth_line.result.now (omega arith) c.requires.fit.0 c.nth_line.ensures.part in
-    sym (sym c.loop-k.invariant ∙ placed_stop (lines_in c.args.n c.args.from.now) (lines_in c.args.m c.args.to.now) (part_of c.args.reading.codes) c.loop-k.k (line_in c.nth_line.result.now) next (sym c.has_place-placed.ensures ∙ c.if-not-placed.true))
+pub returns-then-not-has_place : goal.returns-then-not-has_place
+returns-then-not-has_place g c =
+    sym (placed_stop (lines_of c.loop-line.line-iterator) (lines_of c.args.to.now) (part_of c.args.reading.codes) (line_of c.in-Some.line) _ c.in-Some.ensures.steps (sym c.has_place.ensures ∙ c.if-not-has_place.true)) ∙ c.loop-line.invariant.2
 
-pub loop-k-preserved : goal.loop-k-preserved
-loop-k-preserved c =
-    let next = next-line 16 c.args.n c.loop-k.k c.args.from.now c.nth_line.result.now (omega arith) c.requires.fit.0 c.nth_line.ensures.part in
-    sym (placed_next (lines_in c.args.n c.args.from.now) (lines_in c.args.m c.args.to.now) (part_of c.args.reading.codes) c.loop-k.k (line_in c.nth_line.result.now) next (sym c.has_place-placed.ensures ∙ c.if-not-placed.false)) ∙ c.loop-k.invariant
+pub loop-line-preserved : goal.loop-line-preserved
+loop-line-preserved g c =
+    (tt, tt, sym (placed_next (lines_of c.loop-line.line-iterator) (lines_of c.args.to.now) (part_of c.args.reading.codes) (line_of c.in-Some.line) _ c.in-Some.ensures.steps (sym c.has_place.ensures ∙ c.if-not-has_place.false)) ∙ c.loop-line.invariant.2)
 
 pub returns : goal.returns
-returns c =
-    let l : length (lines_in c.args.n c.args.from.now) ≡ c.args.n = length-lines_in c.args.n c.args.from.now in
-    sym (sym c.loop-k.invariant ∙ placed_end (lines_in c.args.n c.args.from.now) (lines_in c.args.m c.args.to.now) (part_of c.args.reading.codes) c.loop-k.k (omega arith))
+returns g c = sym (placed_end (lines_of c.loop-line.line-iterator) (lines_of c.args.to.now) (part_of c.args.reading.codes) c.in-None.ensures.steps.0) ∙ c.loop-line.invariant.2

@@ -1,10 +1,11 @@
-use Rattle.std.proofs.Common.{◌≡◌, drop}
-use Rattle.question.specs.Layout.{lines_in}
+use Rattle.std.proofs.Common.{◌≡◌}
+use Rattle.question.specs.Lent.{lines_of}
 use Rattle.containment.specs.Search.{all_placed}
 use Rattle.containment.specs.Coding.{part_of}
 use Rattle.containment.proofs.ahead.all_placed.Given as goal
 
-abbrev pub invariant-loop-k : goal.invariant-loop-k
-invariant-loop-k l =
-    all_placed (drop l.k (lines_in l.n l.from)) (lines_in l.m l.to) (part_of l.reading.codes)
-    ≡ all_placed (drop l.i (lines_in l.n l.from)) (lines_in l.m l.to) (part_of l.reading.codes)
+abbrev pub invariant-loop-line : goal.invariant-loop-line
+invariant-loop-line g l =
+    (goal.iterator-loop-line g).can_next l.line-iterator ×
+    (goal.iterator-loop-line g).is_finite l.line-iterator ×
+    (all_placed (lines_of l.line-iterator) (lines_of l.to) (part_of l.reading.codes) ≡ all_placed (lines_of l.from) (lines_of l.to) (part_of l.reading.codes))

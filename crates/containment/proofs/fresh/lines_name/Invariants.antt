@@ -1,8 +1,11 @@
-use Rattle.std.proofs.Common.{◌≡◌, drop}
+use Rattle.std.proofs.Common.{◌≡◌}
 use Rattle.question.specs.Sound.{has}
-use Rattle.question.specs.Layout.{question_in}
+use Rattle.question.specs.Lent.{lines_of}
 use Rattle.containment.specs.OwnTables.{line_numbers}
 use Rattle.containment.proofs.fresh.lines_name.Given as goal
 
-abbrev pub invariant-loop-i : goal.invariant-loop-i
-invariant-loop-i l = has (line_numbers (drop l.i (question_in l.question).lines)) l.n ≡ has (line_numbers (question_in l.question).lines) l.n
+abbrev pub invariant-loop-line : goal.invariant-loop-line
+invariant-loop-line l =
+    (goal.iterator-loop-line).can_next l.line-iterator ×
+    (goal.iterator-loop-line).is_finite l.line-iterator ×
+    (has (line_numbers (lines_of l.line-iterator)) l.n ≡ has (line_numbers (lines_of l.initial.line-iterator)) l.n)

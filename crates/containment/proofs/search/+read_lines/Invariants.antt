@@ -1,13 +1,15 @@
-use Rattle.std.proofs.Common.{◌≡◌, ◌+◌, ◌-◌, drop}
-use Rattle.question.specs.Layout.{line_in, lines_in}
+use Rattle.std.proofs.Common.{◌≡◌, length}
+use Rattle.question.specs.Lent.{line_of, lines_of}
 use Rattle.containment.specs.Search.{read_lines, try_lines}
 use Rattle.containment.specs.Coding.{part_of}
 use Rattle.containment.proofs.search.+read_lines.Given as goal
 
 abbrev pub decreases-read_lines : goal.decreases-read_lines
-decreases-read_lines l = l.n - l.i
+decreases-read_lines g l = length (lines_of l.from.now)
 
-abbrev pub invariant-loop-j : goal.invariant-loop-j
-invariant-loop-j l =
-    try_lines (read_lines (drop (l.i + 1) (lines_in l.n l.from)) (lines_in l.m l.to)) (drop l.j (lines_in l.m l.to)) (line_in l.line) (part_of l.reading.codes)
-    ≡ read_lines (drop l.i (lines_in l.n l.from)) (lines_in l.m l.to) (part_of l.reading.codes)
+abbrev pub invariant-loop-other : goal.invariant-loop-other
+invariant-loop-other g l =
+    (goal.iterator-loop-other g).can_next l.other-iterator ×
+    (goal.iterator-loop-other g).is_finite l.other-iterator ×
+    (try_lines (read_lines (lines_of l.left) (lines_of l.to)) (lines_of l.other-iterator) (line_of l.line) (part_of l.reading.codes)
+    ≡ read_lines (lines_of l.from) (lines_of l.to) (part_of l.reading.codes))

@@ -1,24 +1,19 @@
-use Rattle.std.proofs.Common.{◌≡◌, ◌+◌, true, false, ◌∷◌, drop, sym, ◌∙◌, arith}
+use Rattle.std.proofs.Common.{rules, ◌≡◌, ◌∙◌, true, false, sym, arith}
 use Rattle.std.proofs.lemmas.Bool.Decides.{nat_tests}
-use Rattle.question.specs.Layout.{line_in, lines_in}
-use Rattle.question.proofs.Decoding.{lines_in-next, length-lines_in}
+use Rattle.question.specs.Lent.{line_of}
 use Rattle.containment.specs.OwnNumbers.{one_table}
-use Rattle.containment.proofs.Turns.{has-next, has_stop, has_end}
+use Rattle.containment.proofs.Turns.{has_first, has_rest, has_none}
 use Rattle.containment.proofs.shown.has_table.Goals as goal
 
 pub returns-then-table : goal.returns-then-table
 returns-then-table c =
-    let ls = lines_in c.args.n c.args.lines.now in
-    let next : drop c.loop-i.i ls ≡ line_in c.nth_line.result.now ∷ drop (c.loop-i.i + 1) ls = rw c.nth_line.ensures.part (lines_in-next 256 c.args.n c.loop-i.i c.args.lines.now (omega arith) c.requires.lent.1) in
-    let e : one_table (line_in c.nth_line.result.now) (line_in c.args.line.now) ≡ true = grind (arith, nat_tests) in
-    sym (has_stop one_table c.loop-i.i ls (line_in c.nth_line.result.now) (line_in c.args.line.now) next e) ∙ c.loop-i.invariant
+    let e : one_table (line_of c.in-Some.other) (line_of c.args.line.now) ≡ true = grind (arith, nat_tests) in
+    sym (has_first one_table _ (line_of c.in-Some.other) _ (line_of c.args.line.now) c.in-Some.ensures.steps e) ∙ c.loop-other.invariant.2 ∙ search rules
 
-pub loop-i-preserved : goal.loop-i-preserved
-loop-i-preserved c =
-    let ls = lines_in c.args.n c.args.lines.now in
-    let next : drop c.loop-i.i ls ≡ line_in c.nth_line.result.now ∷ drop (c.loop-i.i + 1) ls = rw c.nth_line.ensures.part (lines_in-next 256 c.args.n c.loop-i.i c.args.lines.now (omega arith) c.requires.lent.1) in
-    let e : one_table (line_in c.nth_line.result.now) (line_in c.args.line.now) ≡ false = grind (arith, nat_tests) in
-    sym (has-next one_table c.loop-i.i ls (line_in c.nth_line.result.now) (line_in c.args.line.now) next e) ∙ c.loop-i.invariant
+pub loop-other-preserved : goal.loop-other-preserved
+loop-other-preserved c =
+    let e : one_table (line_of c.in-Some.other) (line_of c.args.line.now) ≡ false = grind (arith, nat_tests) in
+    (tt, tt, sym (has_rest one_table _ (line_of c.in-Some.other) _ (line_of c.args.line.now) c.in-Some.ensures.steps e) ∙ c.loop-other.invariant.2)
 
 pub returns : goal.returns
-returns c = grind (arith, length-lines_in, has_end)
+returns c = sym (has_none one_table _ (line_of c.args.line.now) c.in-None.ensures.steps.0) ∙ c.loop-other.invariant.2 ∙ search rules

@@ -1,5 +1,11 @@
-use Rattle.std.proofs.Common.{◌≡◌, ℕ, ◌<◌, get_or}
+use Rattle.std.proofs.Common.{◌≡◌, length}
+use Rattle.std.specs.Ordering.{is_lt, nat_cmp}
+use Rattle.std.specs.Cmp.Lexicographic.{slice_cmp}
+use Rattle.std.specs.Iterator.Adapters.{zip_first, zip_second}
+use Rattle.std.specs.Slice.Iter.{iter_rest}
 use Rattle.join.proofs.order.less.Given as goal
 
-abbrev pub invariant-loop-c : goal.invariant-loop-c
-invariant-loop-c l = (i : ℕ) → i < l.c → get_or l.a i 0 ≡ get_or l.b i 0
+-- what is left of the rows is as long, and tells their order
+abbrev pub invariant-loop-x : goal.invariant-loop-x
+invariant-loop-x l = (length (iter_rest (zip_first l.x-iterator)) ≡ length (iter_rest (zip_second l.x-iterator)))
+    × (is_lt (slice_cmp nat_cmp (iter_rest (zip_first l.x-iterator)) (iter_rest (zip_second l.x-iterator))) ≡ is_lt (slice_cmp nat_cmp l.fn.a l.fn.b))

@@ -4,6 +4,6 @@ use Rattle.narrow.specs.Joining.{number}
 use Rattle.narrow.proofs.lines.apart.Given as goal
 
 abbrev pub invariant-loop-i : goal.invariant-loop-i
-invariant-loop-i l = (i : ℕ) → i < l.i → i ≢ l.a → i ≢ l.b → (slot (get_or l.lines i []) 0 < l.k)
-    × (number l.env (get_or l.lines i []) ≢ number l.env (get_or l.lines l.a []))
-    × (number l.env (get_or l.lines i []) ≢ number l.env (get_or l.lines l.b []))
+invariant-loop-i l = (i : ℕ) → i < l.i → i ≢ l.a → i ≢ l.b → (slot (get_or l.lines i []) 0 < l.setting.k)
+    × (number l.setting.env (get_or l.lines i []) ≢ number l.setting.env (get_or l.lines l.a []))
+    × (number l.setting.env (get_or l.lines i []) ≢ number l.setting.env (get_or l.lines l.b []))

@@ -7,10 +7,10 @@ use Rattle.narrow.proofs.narrowing.all_shortened.Goals.{in-Some, in_default}
 
 pub loop-s-preserved : goal.loop-s-preserved
 loop-s-preserved c =
-    let n = c.args.n in
-    let shown = c.args.shown in
-    let k = c.args.k in
-    let env = c.args.env.now in
+    let n = c.args.setting.now.n in
+    let shown = c.args.setting.now.shown in
+    let k = c.args.setting.now.k in
+    let env = c.args.setting.now.env in
     let start = vec_items c.args.rows in
     let begun = vec_items c.args.lines.now in
     let rows = vec_items c.loop-s.left in

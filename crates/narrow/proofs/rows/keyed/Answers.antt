@@ -1,7 +1,4 @@
 use Rattle.std.proofs.Common.{◌+◌, vec_items, sym, ap, ◌∙◌, subst, arith}
-use Rattle.join.specs.Order.{Sorted}
-use Rattle.narrow.specs.Rows.{Keyed, SameRows}
-use Rattle.std.proofs.lemmas.Result.{IfOk-weaker}
 use Rattle.narrow.proofs.Repeating.{Keying, keying-none, keying-more, keyed-by}
 use Rattle.narrow.proofs.rows.keyed.Goals as goal
 use Rattle.narrow.proofs.rows.keyed.Goals.{then-row-number+in_ok-push, else-row-number}
@@ -15,6 +12,7 @@ loop-row-preserved c = elim c.if-row-number.branch [
 ]
 
 pub returns : goal.returns
-returns c =
-    IfOk-weaker c.in_order.result (λ v. Sorted (vec_items v) × SameRows (vec_items c.loop-row.keys) (vec_items v)) (λ v. Sorted (vec_items v) × Keyed c.args.rows.now c.args.number c.args.column (vec_items v))
-    (λ v p. (p.0, keyed-by c.args.rows.now c.args.number c.args.column c.loop-row.row-index (vec_items c.loop-row.keys) (vec_items v) (omega arith) c.loop-row.invariant p.1)) c.in_order.ensures
+returns c = (
+  c.in_order.ensures.0,
+  keyed-by c.args.rows.now c.args.number c.args.column c.loop-row.row-index (vec_items c.loop-row.keys) (vec_items c.in_order.result) (omega arith) c.loop-row.invariant c.in_order.ensures.1,
+)

@@ -13,10 +13,10 @@ returns-then-question-lt50 c =
     let told : question_refusal c.args.question.now ≡ Some (CutShort _) = grind (arith, nat_tests) in
     record { told = told; meant = refused c.args.question.now _ told }
 
-pub returns-in_default : goal.returns-in_default
+pub returns-in-Some : goal.returns-in-Some
 unfolding question_refusal
-returns-in_default c =
-    let told : question_refusal c.args.question.now ≡ Some (NoQuestion c.unwrap_or.result) = grind (arith, nat_tests) in
+returns-in-Some c =
+    let told : question_refusal c.args.question.now ≡ Some (NoQuestion c.in-Some.place) = grind (arith, nat_tests) in
     record { told = told; meant = refused c.args.question.now _ told }
 
 pub returns : goal.returns

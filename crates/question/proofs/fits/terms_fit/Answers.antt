@@ -1,12 +1,12 @@
-use Rattle.std.proofs.Common.{arith}
-use Rattle.question.proofs.Fitting.{terms_fit-next, terms_fit_stop, terms_fit_end}
+use Rattle.std.proofs.Common.{rules, tests, ◌∙◌}
+use Rattle.std.proofs.lemmas.Iterator.{YieldsList-from_slice}
+use Rattle.std.proofs.lemmas.Iterator.Search.{all_from_yields_List}
+use Rattle.question.specs.Layout.{pair_fits}
+use Rattle.question.proofs.Chunks.{all_terms-cut}
 use Rattle.question.proofs.fits.terms_fit.Goals as goal
 
-pub returns-in_default : goal.returns-in_default
-returns-in_default c = grind (arith, terms_fit_stop)
-
-pub loop-i-preserved : goal.loop-i-preserved
-loop-i-preserved c = grind (arith, terms_fit-next)
-
 pub returns : goal.returns
-returns c = grind (arith, terms_fit_end)
+returns c =
+    let ps = c.as_chunks.result.0.now in
+    all_from_yields_List (pair_fits 16) _ _ c.all.result c.all.ensures.ran (YieldsList-from_slice ps cc) (λ x b q k. search (rules, tests))
+    ∙ all_terms-cut 16 c.args.n c.args.numbers.now ps c.requires c.as_chunks.ensures.front

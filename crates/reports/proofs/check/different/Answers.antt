@@ -1,16 +1,22 @@
-use Rattle.std.proofs.Common.{sym, ◌∙◌, arith}
-use Rattle.question.specs.Layout.{question_in}
+use Rattle.std.proofs.Common.{sym, ap, ◌∙◌, ◌∷◌}
+use Rattle.question.specs.Lent.{terms_of}
 use Rattle.reports.proofs.Widths.{different-number, different_twice, different-next, different_end}
 use Rattle.reports.proofs.check.different.Goals as goal
 
-pub returns-in_default : goal.returns-in_default
-returns-in_default c = sym (different-number c.loop-i.i (question_in c.args.report.now).row c.in_default.field-0 c.in_default.ensures) ∙ c.loop-i.invariant
+pub returns-in_default-term : goal.returns-in_default-term
+returns-in_default-term c =
+    let left = terms_of c.next.new.self in
+    sym (different-number _ left c.in_default-term.field-0 (c.in-Some.ensures.steps ∙ ap (λ t. t ∷ left) c.in_default-term.is)) ∙ c.loop-term.invariant.2
 
-pub returns-then-stands_from : goal.returns-then-stands_from
-returns-then-stands_from c = grind (arith, different_twice)
+pub returns-then-have : goal.returns-then-have
+returns-then-have c =
+    let left = terms_of c.next.new.self in
+    sym (different_twice _ left c.in-Variable.x (c.in-Some.ensures.steps ∙ ap (λ t. t ∷ left) c.in-Variable.is) (sym c.have.ensures ∙ c.if-have.true)) ∙ c.loop-term.invariant.2
 
-pub loop-i-preserved : goal.loop-i-preserved
-loop-i-preserved c = grind (arith, different-next)
+pub loop-term-preserved : goal.loop-term-preserved
+loop-term-preserved c =
+    let left = terms_of c.next.new.self in
+    (tt, tt, sym (different-next _ left c.in-Variable.x (c.in-Some.ensures.steps ∙ ap (λ t. t ∷ left) c.in-Variable.is) (sym c.have.ensures ∙ c.if-have.false)) ∙ c.loop-term.invariant.2)
 
 pub returns : goal.returns
-returns c = grind (arith, different_end)
+returns c = sym (different_end _ c.in_default.ensures.steps.0) ∙ c.loop-term.invariant.2

@@ -1,7 +1,10 @@
-use Rattle.std.proofs.Common.{◌≡◌, drop}
-use Rattle.question.specs.Layout.{question_in}
+use Rattle.std.proofs.Common.{◌≡◌}
+use Rattle.question.specs.Lent.{terms_of}
 use Rattle.reports.specs.Check.{different}
 use Rattle.reports.proofs.check.different.Given as goal
 
-abbrev pub invariant-loop-i : goal.invariant-loop-i
-invariant-loop-i l = different (drop l.i (question_in l.report).row) ≡ different (question_in l.report).row
+abbrev pub invariant-loop-term : goal.invariant-loop-term
+invariant-loop-term l =
+    goal.iterator-loop-term.can_next l.left ×
+    goal.iterator-loop-term.is_finite l.left ×
+    (different (terms_of l.left) ≡ different (terms_of l.initial.left))

@@ -1,7 +1,10 @@
-use Rattle.std.proofs.Common.{◌≡◌, drop}
-use Rattle.question.specs.Layout.{line_in, question_in}
+use Rattle.std.proofs.Common.{◌≡◌}
+use Rattle.question.specs.Lent.{line_of, lines_of}
 use Rattle.reports.specs.Check.{same_width}
 use Rattle.reports.proofs.check.same_width.Given as goal
 
-abbrev pub invariant-loop-i : goal.invariant-loop-i
-invariant-loop-i l = same_width (drop l.i (question_in l.question).lines) (line_in l.line) ≡ same_width (question_in l.question).lines (line_in l.line)
+abbrev pub invariant-loop-other : goal.invariant-loop-other
+invariant-loop-other l =
+    goal.iterator-loop-other.can_next l.other-iterator ×
+    goal.iterator-loop-other.is_finite l.other-iterator ×
+    (same_width (lines_of l.other-iterator) (line_of l.line) ≡ same_width (lines_of l.initial.other-iterator) (line_of l.line))

@@ -1,7 +1,10 @@
-use Rattle.std.proofs.Common.{◌≡◌, drop}
-use Rattle.question.specs.Layout.{question_in}
+use Rattle.std.proofs.Common.{◌≡◌}
+use Rattle.question.specs.Lent.{lines_of}
 use Rattle.reports.specs.Check.{same_widths}
 use Rattle.reports.proofs.check.same_widths.Given as goal
 
-abbrev pub invariant-loop-i : goal.invariant-loop-i
-invariant-loop-i l = same_widths (question_in l.question).lines (drop l.i (question_in l.report).lines) ≡ same_widths (question_in l.question).lines (question_in l.report).lines
+abbrev pub invariant-loop-other : goal.invariant-loop-other
+invariant-loop-other l =
+    goal.iterator-loop-other.can_next l.other-iterator ×
+    goal.iterator-loop-other.is_finite l.other-iterator ×
+    (same_widths (lines_of l.lines) (lines_of l.other-iterator) ≡ same_widths (lines_of l.lines) (lines_of l.initial.other-iterator))

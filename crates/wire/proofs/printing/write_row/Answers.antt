@@ -1,18 +1,22 @@
-use Rattle.std.proofs.Common.{◌≡◌, ℕ, List, ◌++◌, get_or, drop, IfOk, string_bytes, decimal, subst, arith}
-use Rattle.std.proofs.lemmas.Bool.Decides.{nat_tests}
-use Rattle.std.proofs.lemmas.List.{take_rest}
-use Rattle.question.proofs.Adding.{then_added}
+use Rattle.std.proofs.Common.{◌++◌, string_bytes, decimal, ap, ◌∙◌, arith}
 use Rattle.wire.specs.Texts.{cells_text}
-use Rattle.wire.proofs.RowTexts.{row_from, row-none}
+use Rattle.wire.proofs.RowTexts.{cells-more, cells_end, row-none, row_from}
+use Rattle.question.proofs.Adding.{joined}
 use Rattle.wire.proofs.printing.write_row.Goals as goal
 
-pub returns-then-is_empty : goal.returns-then-is_empty
-returns-then-is_empty c = row-none c.args.row.now (string_bytes c.args.text.now) (grind (arith, nat_tests))
+pub returns-in_default : goal.returns-in_default
+returns-in_default c = row-none c.args.row.now (string_bytes c.args.text.now) c.in_default.ensures.cases
+
+pub loop-cell-preserved : goal.loop-cell-preserved
+loop-cell-preserved c =
+    cells-more c.in-Some.others.now c.loop-cell.cell-index (string_bytes c.loop-cell.text) (string_bytes c.write-in-loop-cell.new.self) _ (omega arith)
+    c.in_ok-write-2.ensures.bytes c.loop-cell.invariant
 
 pub returns : goal.returns
 returns c =
-    let before = string_bytes c.args.text.now in
-    let after = string_bytes c.write_more_cells.new.text in
     let row = c.args.row.now in
-    let all : IfOk c.write_more_cells.result (λ _. after ≡ before ++ (decimal (get_or row 0 0) ++ cells_text (drop 1 row))) = then_added c.write_more_cells.result before (string_bytes c.write.new.self) after (decimal (get_or row 0 0)) (cells_text (drop 1 row)) c.in_ok-write.ensures.bytes (subst (λ (ns : List ℕ). IfOk c.write_more_cells.result (λ _. after ≡ string_bytes c.write.new.self ++ cells_text ns)) (take_rest row 1) c.write_more_cells.ensures) in
-    subst (λ (bs : List ℕ). IfOk c.write_more_cells.result (λ _. after ≡ before ++ bs)) (row_from row (grind (arith, nat_tests))) all
+    let first = c.in-Some.first.now in
+    let others = c.in-Some.others.now in
+    let all = cells_end others c.loop-cell.cell-index (string_bytes c.loop-cell.text) _ (omega arith) c.loop-cell.invariant in
+    joined (string_bytes c.args.text.now) (string_bytes c.write.new.self) (string_bytes c.loop-cell.text) (decimal first) (cells_text others) c.in_ok-write.ensures.bytes all
+    ∙ ap (λ bs. string_bytes c.args.text.now ++ bs) (row_from row first others c.in-Some.ensures.cases)

@@ -1,33 +1,38 @@
-use Rattle.std.proofs.Common.{vec_items, sym, refl, arith}
+use Rattle.std.proofs.Common.{vec_items, ◌∷◌, [], eqb, sym, refl, ap, ◌∙◌, arith, rules}
+use borrow.Author.Tests.{tests}
 use Rattle.std.proofs.lemmas.Bool.Decides.{nat_tests}
-use Rattle.std.proofs.lemmas.List.{length-take, length-drop}
-use Rattle.wire.proofs.Rows.{row_empty, pushed_one, line_stop, line_end, line-more}
+use Rattle.std.proofs.lemmas.Slice.{pushed}
+use Rattle.std.proofs.lemmas.Iterator.Splits.{YieldsList-from_slice_split}
+use Rattle.std.proofs.lemmas.Result.{err_from_is_err_and}
+use Rattle.std.specs.Slice.Iter.{split_rest, split_done, split_callee}
+use Rattle.wire.specs.Tables.{line_row}
+use Rattle.wire.proofs.Rows.{row_empty, cells_left, cells_more, cells_fault, cells_done, pushed_fault}
+use Rattle.wire.proofs.Steps.{none_from, some_from}
 use Rattle.wire.proofs.tables.push_row.Goals as goal
 
 pub returns-then-is_empty : goal.returns-then-is_empty
 returns-then-is_empty c = row_empty c.args.line.now (vec_items c.args.cells.now) (grind (arith, nat_tests))
 
-pub slice_bounds-read_number-end : goal.slice_bounds-read_number-end
-slice_bounds-read_number-end c = sym (simp length-take (omega arith))
+pub loop-cell-init : goal.loop-cell-init
+loop-cell-init c =
+    let same = c.into_iter-cell-iterator.ensures.into_iter_gives in
+    let cut = c.split-cell-items.ensures in
+    cells_left c.args.line.now (vec_items c.args.cells.now) (grind (arith, nat_tests))
+    (YieldsList-from_slice_split _ (λ b. eqb b 44) c.args.line.now (ap split_rest same ∙ cut.rest) (ap split_done same ∙ cut.done) (ap split_callee same ∙ cut.closure)
+    (λ x b q k. search (rules, tests)))
 
-pub returns-in_default : goal.returns-in_default
-returns-in_default c = (
-  line_stop c.args.line.now c.loop-n.rest.now (vec_items c.args.cells.now) (vec_items c.loop-n.cells) c.place_of-end.result
-      (grind (arith, nat_tests)) c.place_of-end.ensures.place c.in_default.ensures c.loop-n.invariant,
-  refl,
-)
+pub returns-in_err-ok_or : goal.returns-in_err-ok_or
+returns-in_err-ok_or c =
+    let e = err_from_is_err_and c.from_residual.result c.from_residual.ensures.1 in
+    let f = none_from c.read_number.result _ _ c.in_err-ok_or.ensures.value in
+    pushed_fault c.args.at (vec_items c.args.cells.now) (line_row c.args.line.now) _ c.from_residual.result e.0 e.1 (e.2 ∙ f.1)
+    (cells_fault c.next.new.self c.in-Some.cell (vec_items c.loop-cell.cells) _ _ c.loop-cell.invariant c.in-Some.ensures.steps (sym c.read_number.ensures ∙ f.0))
 
-pub returns-then-end-rest : goal.returns-then-end-rest
-returns-then-end-rest c =
-    line_end c.args.line.now c.loop-n.rest.now (vec_items c.args.cells.now) (vec_items c.loop-n.cells) (vec_items c.push.new.self)
-    c.place_of-end.result c.in-Some.n (grind (arith, nat_tests)) c.place_of-end.ensures.place (omega arith) c.in-Some.ensures
-    (pushed_one _ _ _ _ c.if-is_err.ensures.negation c.push.ensures.items) c.loop-n.invariant
+pub loop-cell-preserved : goal.loop-cell-preserved
+loop-cell-preserved c =
+    let n = c.in_ok-ok_or.field-0 in
+    cells_more c.next.new.self c.in-Some.cell (vec_items c.loop-cell.cells) (vec_items c.push.new.self) _ n c.loop-cell.invariant c.in-Some.ensures.steps
+    (sym c.read_number.ensures ∙ some_from c.read_number.result _ n c.in_ok-ok_or.ensures.value) (pushed (n ∷ []) refl c.in_ok-push.was c.push.ensures.items)
 
-pub loop-n-smaller : goal.loop-n-smaller
-loop-n-smaller c = rw c.behind-rest.ensures (simp length-drop (omega arith))
-
-pub loop-n-preserved : goal.loop-n-preserved
-loop-n-preserved c =
-    line-more c.args.line.now c.loop-n.rest.now c.behind-rest.result.now (vec_items c.args.cells.now) (vec_items c.loop-n.cells)
-    (vec_items c.push.new.self) c.place_of-end.result c.in-Some.n c.place_of-end.ensures.place (omega arith) c.in-Some.ensures
-    (pushed_one _ _ _ _ c.if-is_err.ensures.negation c.push.ensures.items) c.behind-rest.ensures c.loop-n.invariant
+pub returns : goal.returns
+returns c = cells_done c.next.new.self (vec_items c.loop-cell.cells) _ c.loop-cell.invariant c.in-None.ensures.steps

@@ -9,15 +9,15 @@ returns-then-is_empty c = sym (number-none c.args.cell.now (grind (arith, nat_te
 pub returns-in_err-n : goal.returns-in_err-n
 returns-in_err-n c =
     rw c.from_residual.ensures
-    (sym (number-some c.args.cell.now (grind (arith, nat_tests)) ∙ sym c.loop-digit.invariant
-    ∙ digits_stop c.loop-digit.n c.args.cell.now c.loop-digit.digit-index (omega arith) (sym c.in_err-n.ensures)))
+    (sym (number-some c.args.cell.now (grind (arith, nat_tests)) ∙ sym c.loop-byte.invariant
+    ∙ digits_stop c.loop-byte.n c.args.cell.now c.loop-byte.byte-index (omega arith) (sym c.in_err-n.ensures)))
 
-pub loop-digit-preserved : goal.loop-digit-preserved
-loop-digit-preserved c =
-    sym (digits_step c.loop-digit.n c.in_ok-n.n c.args.cell.now c.loop-digit.digit-index (omega arith) (sym c.in_ok-n.ensures))
-    ∙ c.loop-digit.invariant
+pub loop-byte-preserved : goal.loop-byte-preserved
+loop-byte-preserved c =
+    sym (digits_step c.loop-byte.n c.in_ok-n.n c.args.cell.now c.loop-byte.byte-index (omega arith) (sym c.in_ok-n.ensures))
+    ∙ c.loop-byte.invariant
 
 pub returns : goal.returns
 returns c =
-    sym (number-some c.args.cell.now (grind (arith, nat_tests)) ∙ sym c.loop-digit.invariant
-    ∙ digits_end c.loop-digit.n c.args.cell.now c.loop-digit.digit-index (omega arith))
+    sym (number-some c.args.cell.now (grind (arith, nat_tests)) ∙ sym c.loop-byte.invariant
+    ∙ digits_end c.loop-byte.n c.args.cell.now c.loop-byte.byte-index (omega arith))

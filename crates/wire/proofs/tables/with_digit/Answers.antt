@@ -1,19 +1,19 @@
-use Rattle.std.proofs.Common.{sym, arith}
-use Rattle.std.proofs.lemmas.Bool.Decides.{nat_tests}
-use Rattle.wire.specs.Tables.{digit_more}
-use Rattle.wire.proofs.CellText.{digit_large, digit_fits}
+use Rattle.std.proofs.Common.{sym, ap, ◌∙◌}
+use Rattle.std.specs.Char.{digit_value}
+use Rattle.wire.proofs.CellText.{digit_large, digit_fits, digit_from, digit_none}
 use Rattle.wire.proofs.tables.with_digit.Goals as goal
 
-pub returns-then-not-is_ascii_digit : goal.returns-then-not-is_ascii_digit
-unfolding digit_more
-returns-then-not-is_ascii_digit c = grind (arith, nat_tests)
+pub returns-in_err-digit : goal.returns-in_err-digit
+returns-in_err-digit c = rw (c.from_residual.ensures, ← c.from.ensures) (sym (digit_none c.args.n c.from.result c.in_err-digit.ensures.value))
 
 pub returns-in_err-checked_mul : goal.returns-in_err-checked_mul
 returns-in_err-checked_mul c =
     let h = c.in_err-checked_mul.ensures in
-    rw c.from_residual.ensures (sym (digit_large c.args.n c.args.digit h))
+    rw c.from_residual-in_err-checked_mul.ensures (sym (digit_large c.args.n c.args.byte h))
 
 pub returns : goal.returns
 returns c =
     let h = c.in_ok-checked_mul.ensures in
-    digit_fits c.args.n c.args.digit c.in_ok-checked_mul.field-0 c.from.result c.checked_add.result (grind (arith, nat_tests)) h.1 c.from.ensures c.checked_add.ensures
+    let v = c.in_ok-digit.ensures.value in
+    let d = digit_from c.args.byte c.in_ok-digit.digit (v.1 ∙ ap digit_value c.from.ensures) (rw (sym v.1) at v.0) in
+    digit_fits c.args.n c.args.byte c.in_ok-checked_mul.field-0 c.from-2.result c.checked_add.result (d.0, d.1) h.1 (c.from-2.ensures ∙ d.2) c.checked_add.ensures

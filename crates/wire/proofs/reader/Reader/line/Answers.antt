@@ -4,18 +4,18 @@ use Rattle.wire.specs.Bytes.{read_number, read_row, read_line}
 use Rattle.wire.proofs.Steps.{then_read, then_short}
 use Rattle.wire.proofs.reader.Reader.line.Goals as goal
 
-pub returns-in_err-table : goal.returns-in_err-table
+pub returns-in_err-table-clause-read : goal.returns-in_err-table-clause-read
 unfolding read_line
-returns-in_err-table c = rw c.from_residual.ensures (then_short read_number _ _ c.in_err-table.ensures)
+returns-in_err-table-clause-read c = rw c.from_residual.ensures (then_short read_number _ _ c.in_err-table.ensures)
 
-pub returns-in_err-cells : goal.returns-in_err-cells
+pub returns-in_err-cells-clause-read : goal.returns-in_err-cells-clause-read
 unfolding read_line
-returns-in_err-cells c =
+returns-in_err-cells-clause-read c =
     rw c.from_residual-in_err-cells.ensures
     (then_read read_number _ _ _ _ c.in_ok-table.ensures ∙ then_short read_row _ _ c.in_err-cells.ensures)
 
-pub returns : goal.returns
+pub returns-clause-read : goal.returns-clause-read
 unfolding read_line
-returns c =
+returns-clause-read c =
     rw (c.from.ensures, c.copy_from_slice.ensures.after, append-nil c.in_ok-cells.cells)
     (then_read read_number _ _ _ _ c.in_ok-table.ensures ∙ then_read read_row _ _ _ _ c.in_ok-cells.ensures)

@@ -1,37 +1,30 @@
-use Rattle.std.proofs.Common.{◌+◌, ◌*◌, ◌∙◌, arith}
+use Rattle.std.proofs.Common.{◌∷◌, [], ◌++◌, refl, ◌∙◌, arith, rules, of_calls}
 use Rattle.wire.specs.Bytes.{read_byte, read_row, read_line, read_question}
 use Rattle.wire.proofs.Steps.{then_read, then_short}
-use Rattle.wire.proofs.Filling.{question-behind, question_start, filling-more, filling-short, filling_end}
+use Rattle.wire.proofs.Filling.{question-behind, question-whole, front-short}
 use Rattle.wire.proofs.reader.Reader.question.Goals as goal
 
-pub returns-in_err-row : goal.returns-in_err-row
+pub returns-in_err-row-clause-read : goal.returns-in_err-row-clause-read
 unfolding read_question
-returns-in_err-row c = rw c.from_residual.ensures (then_short read_row _ _ c.in_err-row.ensures)
+returns-in_err-row-clause-read c = rw c.from_residual.ensures (then_short read_row _ _ c.in_err-row.ensures)
 
-pub returns-in_err-byte : goal.returns-in_err-byte
+pub returns-in_err-count-clause-read : goal.returns-in_err-count-clause-read
 unfolding read_question
-returns-in_err-byte c =
-    rw c.from_residual-in_err-byte.ensures
-    (then_read read_row _ _ _ _ c.in_ok-row.ensures ∙ then_short read_byte _ _ c.in_err-byte.ensures)
+returns-in_err-count-clause-read c =
+    rw c.from_residual-in_err-count.ensures
+    (then_read read_row _ _ _ _ c.in_ok-row.ensures ∙ then_short read_byte _ _ c.in_err-count.ensures)
 
-pub loop-i-init : goal.loop-i-init
-loop-i-init c = question_start c.copy_from_slice.new.self c.from-count.result _ read_line _ c.copy_from_slice.ensures.len (omega arith)
+pub parts-requires : goal.parts-requires
+parts-requires c κs = ((refl, tt), (search of_calls, ((refl, omega arith), (10, 4, omega arith, omega arith, refl, λ r r2 o e. search rules))))
 
-pub returns-in_err-line : goal.returns-in_err-line
-returns-in_err-line c =
-    rw c.from_residual-in_err-line.ensures
-    (question-behind _ _ _ _ _ _ c.copy_from_slice.new.self c.in_ok-row.ensures c.in_ok-byte.ensures c.from-count.ensures
-    c.copy_from_slice.ensures.after c.copy_from_slice.ensures.len
-    ∙ filling-short 50 _ _ _ _ read_line _ _ c.loop-i.invariant (omega arith) c.in_err-line.ensures)
+pub returns-in_err-parts-clause-read : goal.returns-in_err-parts-clause-read
+returns-in_err-parts-clause-read c =
+    rw c.from_residual-in_err-parts.ensures
+    (question-behind _ _ _ _ (c.in_ok-row.row ++ c.in_ok-count.count ∷ []) _ c.in_ok-row.ensures c.in_ok-count.ensures refl
+    ∙ front-short 40 50 (c.in_ok-row.row ++ c.in_ok-count.count ∷ []) _ (c.in_err-parts.ensures read_line (λ r r2 o e. search rules)))
 
-pub loop-i-preserved : goal.loop-i-preserved
-loop-i-preserved c =
-    rw c.keep.ensures
-    (filling-more 50 (10 + 10 * c.loop-i.i) (10 + 10 * (c.loop-i.i + 1)) _ _ _ _ read_line _ _ _ c.loop-i.invariant (omega arith)
-    c.in_ok-line.ensures (omega arith) (omega arith) (λ h. omega arith))
-
-pub returns : goal.returns
-returns c =
-    question-behind _ _ _ _ _ _ c.copy_from_slice.new.self c.in_ok-row.ensures c.in_ok-byte.ensures c.from-count.ensures
-    c.copy_from_slice.ensures.after c.copy_from_slice.ensures.len
-    ∙ filling_end 50 _ _ _ _ read_line _ _ c.loop-i.invariant (omega arith)
+pub returns-clause-read : goal.returns-clause-read
+returns-clause-read c =
+    question-behind _ _ _ _ (c.in_ok-row.row ++ c.in_ok-count.count ∷ []) _ c.in_ok-row.ensures c.in_ok-count.ensures refl
+    ∙ question-whole c.in_ok-row.row c.copy_from_slice.new.self c.parts.new.room _ c.in_ok-count.count c.from.result _ c.copy_from_slice.ensures.after
+    c.copy_from_slice.ensures.len c.from.ensures (c.in_ok-parts.ensures read_line (λ r r2 o e. search rules))

@@ -1,25 +1,22 @@
-use Rattle.std.proofs.Common.{◌+◌, ◌*◌, ◌∙◌, arith}
+use Rattle.std.proofs.Common.{◌∷◌, [], refl, ◌∙◌, arith, rules, of_calls, append-nil}
 use Rattle.wire.specs.Bytes.{read_byte, read_term, read_row}
 use Rattle.wire.proofs.Steps.{then_short}
-use Rattle.wire.proofs.Filling.{row-behind, filling-more, filling-short, filling_end}
+use Rattle.wire.proofs.Filling.{row-behind, front_whole, front-short}
 use Rattle.wire.proofs.reader.Reader.row.Goals as goal
 
-pub returns-in_err-byte : goal.returns-in_err-byte
+pub returns-in_err-count : goal.returns-in_err-count
 unfolding read_row
-returns-in_err-byte c = rw c.from_residual.ensures (then_short read_byte _ _ c.in_err-byte.ensures)
+returns-in_err-count c = rw c.from_residual.ensures (then_short read_byte _ _ c.in_err-count.ensures)
 
-pub returns-in_err-term : goal.returns-in_err-term
-returns-in_err-term c =
-    rw c.from_residual-in_err-term.ensures
-    (row-behind _ _ _ _ c.in_ok-byte.ensures c.from-count.ensures
-    ∙ filling-short 9 _ _ _ _ read_term _ _ c.loop-i.invariant (omega arith) c.in_err-term.ensures)
+pub parts-requires : goal.parts-requires
+parts-requires c κs = ((refl, tt), (search of_calls, ((refl, omega arith), (2, 4, omega arith, omega arith, refl, λ r r2 o e. search rules))))
 
-pub loop-i-preserved : goal.loop-i-preserved
-loop-i-preserved c =
-    rw c.keep.ensures
-    (filling-more 9 (1 + 2 * c.loop-i.i) (1 + 2 * (c.loop-i.i + 1)) _ _ _ _ read_term _ _ _ c.loop-i.invariant (omega arith) c.in_ok-term.ensures
-    (omega arith) (omega arith) (λ h. omega arith))
+pub returns-in_err-parts : goal.returns-in_err-parts
+returns-in_err-parts c =
+    rw c.from_residual-in_err-parts.ensures
+    (row-behind _ _ _ _ c.in_ok-count.ensures c.from.ensures ∙ front-short 8 9 (c.from.result ∷ []) _ (c.in_err-parts.ensures read_term (λ r r2 o e. search rules)))
 
 pub returns : goal.returns
 returns c =
-    row-behind _ _ _ _ c.in_ok-byte.ensures c.from-count.ensures ∙ filling_end 9 _ _ _ _ read_term _ _ c.loop-i.invariant (omega arith)
+    rw (append-nil c.parts.new.room)
+    (row-behind _ _ _ _ c.in_ok-count.ensures c.from.ensures ∙ front_whole 8 9 (c.from.result ∷ []) c.parts.new.room _ _ (omega arith) (c.in_ok-parts.ensures read_term (λ r r2 o e. search rules)))

@@ -1,9 +1,0 @@
-use Rattle.std.proofs.Common.{◌≡◌, ◌+◌, ◌-◌}
-use Rattle.question.specs.Layout.{lines_in}
-use Rattle.minimization.specs.Choices.{by_size}
-use Rattle.minimization.proofs.choose.first_of_sizes.Given as goal
-
-abbrev pub invariant-loop-n : goal.invariant-loop-n
-invariant-loop-n g l =
-    let sizes = by_size (g.T.Test.decides l.test) (lines_in l.m l.lines) in
-    sizes (l.most + 1 - l.n) l.n ≡ sizes l.most 1

@@ -176,7 +176,7 @@ fn draw_large_table(heap: Global, dice: &mut Dice, number: u64) -> Result<Table,
 }
 
 // Tables, one of them too large, and its place. It may be one that no line names.
-// The place says something only if one is to be too large.
+// Whether a table goes past its room is drawn, and is no kind.
 fn draw_tables(
     heap: Global,
     dice: &mut Dice,

@@ -41,6 +41,7 @@ impl Codes {
         ensures { result.list.items ≡ 0 ∷ 1 ∷ 2 ∷ 3 ∷ [] }
     {
         let mut list = ArrayVec::new();
+        // The first four numbers: there is no list to go over.
         for number in 0..4 {
             list.push(number);
         }

@@ -26,6 +26,7 @@ pub(crate) struct PlannedLine {
 }
 
 // The slots of the terms of a row.
+// At most four terms is asked here: terms that are lent may be more.
 pub(crate) fn row_slots(codes: &Codes, terms: Terms<'_, 16>) -> ArrayVec<usize, 4>
     requires { length (terms_of terms) ≤ 4 }
     ensures { result.items ≡ places (place_in codes.now.list.items) (terms_of terms.entry) }
@@ -38,6 +39,7 @@ pub(crate) fn row_slots(codes: &Codes, terms: Terms<'_, 16>) -> ArrayVec<usize, 
 }
 
 // The columns of a line's terms as they come.
+// At most four terms is asked here too, and of the next.
 fn columns(codes: &Codes, terms: Terms<'_, 16>) -> ArrayVec<Column, 4>
     requires { length (terms_of terms) ≤ 4 }
     ensures { result.items ≡ map (column_at (place_in codes.now.list.items) (terms_of terms.entry)) (range_with_len 0 (length (terms_of terms.entry))) }

@@ -48,7 +48,9 @@ fn takes(terms: &[Term], row: &[u64]) -> bool
 {
     let mut terms = terms;
     let mut cells = row;
+    // Not a zip: where the lists are not equally long the answer is no.
     while let Some((cell, cells_behind)) = cells.split_first() {
+        // Not `?`: the answer is a yes or no.
         let Some((term, terms_behind)) = terms.split_first() else {
             return false;
         };

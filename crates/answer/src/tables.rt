@@ -13,6 +13,7 @@ use question::Refusal;
 pub(crate) struct Rows<'a> {
     left: &'a [u64],
     columns: usize,
+    // Rows of no columns are counted too, which the numbers can't tell.
     count: usize,
     ghost room: { count * columns ≤ length left.now },
 }
@@ -95,11 +96,14 @@ impl<'a> Table<'a> {
 }
 
 // Whether so many tables are all there.
+// How many there should be is what is asked: the numbers alone don't tell.
 fn all_there(numbers: &[u64], count: usize) -> bool
     ensures { result ≡ all_there count numbers.now }
 {
     let mut rest = numbers;
+    // So many times: what comes next is known only when the one before is read.
     for _ in 0..count {
+        // Not `?`: the answer is a yes or no.
         let Some(table) = Table::first_of(rest) else {
             return false;
         };
@@ -112,6 +116,7 @@ fn all_there(numbers: &[u64], count: usize) -> bool
 #[derive(Clone, Copy)]
 pub(crate) struct Tables<'a> {
     left: &'a [u64],
+    // Tables have different sizes, so the numbers don't tell how many are left.
     count: usize,
     ghost there: { all_there count left.now ≡ true },
 }

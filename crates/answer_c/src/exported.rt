@@ -15,6 +15,7 @@ pub struct Told {
 }
 
 // An answer as two numbers.
+// C is handed two numbers, so this is no `From`.
 fn as_numbers(answer: Result<u64, Refusal>) -> Told
     ensures { (result.number ≡ number_of answer) × ((result.value ∷ []) ≡ values_of answer) }
 {

@@ -7,6 +7,7 @@ use question::{Refusal, check_question};
 use wire::read_question;
 
 // The question that stands in the bytes, for so many tables in a lent form of so many numbers.
+// The count and the length are those of the tables, not of the bytes.
 pub fn asked(bytes: &[u8], count: usize, length: usize) -> Result<[u64; 50], Refusal>
     ensures { MatchResult result
         (λ numbers. (question_of bytes.now ≡ Some numbers) × (refusal_of bytes.now count length ≡ None))

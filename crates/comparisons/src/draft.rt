@@ -30,6 +30,7 @@ pub fn row(terms: &[Term]) -> [u64; 50] {
 pub fn line(mut question: [u64; 50], table: u64, terms: &[Term]) -> [u64; 50] {
     let count = question[9] as usize;
     if count < 4 {
+        // The number in the layout is the count itself.
         question[9] += 1;
         let line = &mut question[10 + 10 * count..20 + 10 * count];
         line[0] = table;

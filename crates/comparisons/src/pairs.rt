@@ -4,6 +4,7 @@ use containment::{Containment, within};
 use std::io;
 
 // What is said of two questions, and where they are apart the tables that show it.
+// The size is the room's, some of whose numbers are shown.
 fn show(
     rt: &HostRuntime,
     name: &str,
@@ -18,6 +19,7 @@ fn show(
         Ok(Containment::Apart(count)) => {
             print!(rt; "{name}: apart, by the tables")?;
             for cell in all.iter().take(count as usize) {
+                // A list with a blank before each number: no type has this as its text.
                 print!(rt; " {cell}")?;
             }
             println!(rt; "")
@@ -51,6 +53,7 @@ fn show_worked(rt: &HostRuntime) -> io::Result<()> {
     show(rt, "itself", &fourth(), &fourth(), 64)
 }
 
+// It shows two questions that differ in numbers only.
 fn show_numbers(rt: &HostRuntime) -> io::Result<()> {
     let any = line(row(&[]), 3, &[x(0)]);
     let five = line(row(&[]), 3, &[n(5)]);

@@ -12,6 +12,7 @@ fn show(rt: &HostRuntime, name: &str, question: &[u64], size: usize) -> io::Resu
         Ok(count) => {
             print!(rt; "{name}: {count} lines,")?;
             for number in all {
+                // A list with a blank before each number: no type has this as its text.
                 print!(rt; " {number}")?;
             }
             println!(rt; "")

@@ -24,6 +24,7 @@ fn has_place<const LIMIT: usize>(
 }
 
 // Whether each of the lines, alone, can be put as one of the others, past the reading. If one can't, no reading puts them all.
+// The reading comes by value and grows at each step, so the three stay apart.
 fn all_placed<const LIMIT: usize>(
     reading: Reading,
     from: &Lines<'_, 16>,
@@ -40,6 +41,7 @@ fn all_placed<const LIMIT: usize>(
 }
 
 // Whether there is a reading, past the one given, that puts the lines as some of the others. It looks ahead: where a line has no place left, it turns back.
+// As above, the three stay apart.
 pub(crate) fn can_read_lines<const LIMIT: usize>(
     reading: Reading,
     from: &Lines<'_, 16>,
@@ -48,6 +50,7 @@ pub(crate) fn can_read_lines<const LIMIT: usize>(
     ensures { result ≡ is_some (read_lines (lines_of from.now) (lines_of to.now) (part_of reading.codes)) }
 {
     let mut left = *from;
+    // Not `?`: no line left means yes.
     let Some(line) = left.next() else {
         return true;
     };

@@ -46,6 +46,7 @@ fn free_from(first: &Question<'_>, second: &Question<'_>, from: u64) -> u64
     ensures { result ≡ free_from (question_numbers (question_of first.now) ++ question_numbers (question_of second.now)) from }
 {
     let mut n = from;
+    // The least number that is not named: there is no list of candidates.
     while named(first, second, n) {
         n += 1;
     }
@@ -58,6 +59,7 @@ pub(crate) fn names(first: &Question<'_>, second: &Question<'_>) -> [u64; 16]
 {
     let mut values = [0; 16];
     let mut next = 1;
+    // The variables x0 to x15.
     for x in 0..16u8 {
         let name = free_from(first, second, next);
         values[x as usize] = name;

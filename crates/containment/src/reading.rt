@@ -8,6 +8,7 @@ ghost use Rattle.containment.specs.Coding.{part_of};
 use question::{Line, Term, Terms};
 
 // The code of a variable that is not put: 2^33.
+// A number and no `Option`, so that a reading is sixteen numbers, copied at each step of the search.
 const NOT_PUT: u64 = 8589934592;
 
 // A code for each of x0 to x15: n where it is put as the number n, 2^32 + x where it is put as the variable x.

@@ -22,6 +22,7 @@ fn row_reading<'a>(question: &Question<'a>, other: &Question<'a>) -> Option<Read
 }
 
 // The first reading, past the one given, that puts the first lines as some of the others.
+// The reading comes by value and grows at each step, so the three stay apart.
 pub fn read_lines<const LIMIT: usize>(
     reading: Reading,
     from: &Lines<'_, 16>,
@@ -57,6 +58,7 @@ pub fn first_reading(question: &Question<'_>, other: &Question<'_>) -> Option<Re
 pub fn reads_into<const LIMIT: usize>(question: &Question<'_>, lines: &Lines<'_, LIMIT>) -> bool
     ensures { result ≡ can_read (question_of question.now) (record { row = (question_of question.now).row; lines = lines_of lines.now }) }
 {
+    // Not `?`: the answer is a yes or no.
     let Some(reading) = row_reading(question, question) else {
         return false;
     };

@@ -9,6 +9,7 @@ ghost use Rattle.containment.specs.OwnNumbers.{line_eqb, one_table, has_same, li
 use question::{Line, Lines, Question};
 
 // Whether two lines are the same: of one table and with the same terms.
+// Not a derived `==`: room that a line does not use may differ.
 fn same_line(a: &Line<'_, 16>, b: &Line<'_, 16>) -> bool
     ensures { result ≡ line_eqb (line_of a.now) (line_of b.now) }
 {
@@ -62,6 +63,7 @@ impl<'a> OwnTables<'a> {
         let mut count = 0;
         for (i, line) in self.lines.enumerate() {
             if gives_row(&self.lines.front(i), &line, of) {
+                // The count is the answer; each line is looked at with those before it.
                 count += 1;
             }
         }
@@ -75,6 +77,7 @@ impl<'a> OwnTables<'a> {
         let mut count = 0;
         for (i, line) in self.lines.enumerate() {
             if !has_table(&self.lines.front(i), &line) {
+                // The count is the answer; each line is looked at with those before it.
                 count += 1;
             }
         }

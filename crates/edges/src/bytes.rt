@@ -15,6 +15,7 @@ fn show_request(rt: &HostRuntime, name: &str, bytes: &[u8]) -> io::Result<()> {
 fn hostile(heap: Global) -> Result<Vec<u8>, AllocError> {
     let mut bytes = Vec::new(heap);
     bytes.extend_from_slice(&[0, 0, 255])?;
+    // 255 times the same bytes.
     for _ in 0..255 {
         bytes.extend_from_slice(&[7, 0, 0, 0, 255])?;
         bytes.extend_from_slice(&[0; 1275])?;

@@ -30,6 +30,7 @@ fn repeated(n: u64) -> [u64; 50] {
     let mut question = [0; 50];
     question[..2].copy_from_slice(&[1, 1]);
     question[9] = n;
+    // Each ten of the layout, written over.
     for line in question[10..].as_chunks_mut().0 {
         *line = [7, 1, 1, 0, 0, 0, 0, 0, 0, 0];
     }
@@ -53,6 +54,7 @@ pub fn show(rt: &HostRuntime, name: &str, question: &[u64]) -> io::Result<()> {
     }
 }
 
+// A program's list of what it shows, as `trials` has one of its own.
 pub fn show_all(rt: &HostRuntime) -> io::Result<()> {
     show_counts(rt)?;
     show_cells(rt)

@@ -42,6 +42,7 @@ impl Join<'_> {
         let mut count = 0;
         let mut at = 0;
         let mut last = None;
+        // Each row is asked for by the one before it: there is no list.
         while let Some(next) = self.first(*k, env, last.as_ref()) {
             if out.len() - at < row.len() {
                 return Err(NoRoomAfter(count));

@@ -25,6 +25,7 @@ impl Join<'_> {
             return Some(*env);
         }
         let mut x = after.map_or(0, |last| last[k]);
+        // The next value is known only when this one is tried: there is no list.
         loop {
             let mut here = *env;
             here[k] = x;

@@ -14,6 +14,7 @@ pub type SlotLine = [usize; 5];
 pub type Values = [u64; 24];
 
 // The row of a line's slots. Written out: a closure for `map` is no shorter, and asks for the bound of each slot.
+// The bound of 24 is the environment's: a line of slots may have any.
 pub fn row_under(line: &SlotLine, env: &Values) -> Row
     requires { SlotsBelow 24 line.now }
     ensures { result ≡ under line.now env.now }
@@ -62,6 +63,7 @@ fn present(rows: &[Row], line: &SlotLine, env: &Values) -> bool
 
 impl Join<'_> {
     // The least value from env[k] on that the slot k can have in this line, given those below k; or no more than that value where the line does not tell.
+    // The bound of 24 is asked here too, for the same reason.
     fn line_bound(&self, line: &SlotLine, k: usize, env: &Values) -> Option<u64>
         requires below { SlotsBelow 24 line.now }
         requires slots { (k < 24) × (Blank (k + 1) env.now) }

@@ -46,6 +46,7 @@ impl<'a, T: Test> Candidates<'a, T> {
         let none = Chosen::nothing();
         let mut first = None;
         let mut behind_a = self.lines;
+        // Left from inside by a label, and the body needs what is still behind: no `for`.
         'found: while let Some(a) = behind_a.next() {
             let one = none.with(&a);
             if let Some(two) = self.first_with(&one, &behind_a) {
@@ -63,6 +64,7 @@ impl<'a, T: Test> Candidates<'a, T> {
         let none = Chosen::nothing();
         let mut first = None;
         let mut behind_a = self.lines;
+        // As in `first_two`.
         'found: while let Some(a) = behind_a.next() {
             let one = none.with(&a);
             let mut behind_b = behind_a;
@@ -84,6 +86,7 @@ impl<'a, T: Test> Candidates<'a, T> {
         let none = Chosen::nothing();
         let mut first = None;
         let mut behind_a = self.lines;
+        // As in `first_two`.
         'found: while let Some(a) = behind_a.next() {
             let one = none.with(&a);
             let mut behind_b = behind_a;
@@ -120,6 +123,7 @@ impl<'a, T: Test> Candidates<'a, T> {
         requires { most ≤ 4 }
         ensures { option_map meant result ≡ by_size (T.decides self.now.test) (lines_of self.now.lines) most 1 }
     {
+        // The sizes, from one on.
         for n in 1..=most {
             if let Some(first) = self.first_choice(n) {
                 return Some(first);

@@ -25,6 +25,7 @@ impl<'a> Test for SaysSame<'a> {
 }
 
 // Writes the least question to the front of out, and counts its lines.
+// The room for fifty numbers is asked: whoever lends it has looked.
 fn write_least(question: &Question<'_>, out: &mut [u64]) -> u64
     requires { 50 ≤ length out.old }
     ensures told { result ≡ length (least (question_of question.now)).lines }

@@ -42,6 +42,7 @@ pub(crate) fn gather(lines: &[SlotLine], a: usize, b: usize, setting: &Setting) 
     let mut new = [lines[a][0]; 5];
     // How many columns the new line has.
     let mut w = 1;
+    // The slots by number, which need not stand in a list.
     for j in setting.k..setting.n {
         if kept(lines, a, b, setting.shown, j) {
             if w >= 5 {

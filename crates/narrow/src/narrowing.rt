@@ -144,6 +144,7 @@ fn all_shortened(
     ensures { IfOk result (λ v. Narrowed setting.now.n setting.now.shown setting.now.k setting.now.env rows.items lines.old.items v.items lines.new.items) }
 {
     let mut left = rows;
+    // The slots by number: what is left out changes as it goes.
     for s in setting.shown..setting.n {
         let taken = leave_out(heap, &left, lines, s, setting)?;
         if let Some(more) = taken {
@@ -165,6 +166,7 @@ pub fn narrow(
 {
     let short = all_shortened(heap, rows, lines, setting)?;
     let mut left = in_order(short);
+    // The slots by number, the last first.
     for s in (setting.shown..setting.n).rev() {
         let taken = take_slot(heap, &left, lines, s, setting)?;
         if let Some(more) = taken {

@@ -8,6 +8,7 @@ ghost use Rattle.narrow.specs.Rows.{Fits};
 use join::{Row, Setting, SlotLine, Values, row_under};
 
 // Puts the row's numbers into the line's slots from k on.
+// The bound of 24 is the environment's: a line of slots may have any.
 fn put_row(vals: &mut Values, line: &SlotLine, row: &Row, k: usize)
     requires { SlotsBelow 24 line.now }
     ensures low { (j : ℕ) → j < k → slice_index vals.new j ≡ slice_index vals.old j }
@@ -22,6 +23,7 @@ fn put_row(vals: &mut Values, line: &SlotLine, row: &Row, k: usize)
 }
 
 // Whether the row is what the line is under the values.
+// The bound of 24 is asked here too, for the same reason.
 fn fits(line: &SlotLine, row: &Row, vals: &Values) -> bool
     requires { SlotsBelow 24 line.now }
     ensures yes { result ≡ true → Fits line.now (cells row.now) (cells vals.now) }

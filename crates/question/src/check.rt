@@ -57,6 +57,7 @@ fn row_good(question: &[u64]) -> bool
 }
 
 // Where fifty numbers are no question.
+// The fifty numbers are asked: it is this that decides whether they are a question.
 fn question_fault(question: &[u64]) -> Option<u64>
     requires { 50 ≤ length question.now }
     ensures { result ≡ fault question.now }

@@ -5,6 +5,7 @@ ghost use Rattle.question.specs.Layout.{terms_fit, line_fits};
 use super::terms::Term;
 
 // Whether the first n pairs of numbers are terms of a question.
+// Plain numbers, of which it is not known yet whether they are terms.
 pub(crate) fn terms_fit(numbers: &[u64], n: usize) -> bool
     requires { 2 * n ≤ length numbers.now }
     ensures { result ≡ terms_fit 16 n numbers.now }

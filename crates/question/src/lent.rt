@@ -39,6 +39,7 @@ impl<'a> Question<'a> {
     }
 
     // The terms of its row.
+    // Like `lines` below, but of another type of item.
     #[tactic(auto, using(crate::proofs::Parted::long))]
     pub fn row(&self) -> Terms<'a, 16>
         ensures row { terms_of result ≡ (question_of self.now).row }

@@ -43,6 +43,7 @@ impl<'a, const LIMIT: usize> Line<'a, LIMIT> {
     }
 
     // Its ten numbers. Room that it does not use may hold anything.
+    // The layout itself, so no `From`.
     pub fn numbers(&self) -> &'a [u64; 10]
         ensures line { line_in result.now ≡ line_of self.now }
         ensures fits { line_fits LIMIT result.now ≡ true }
@@ -91,6 +92,7 @@ impl<'a, const LIMIT: usize> Lines<'a, LIMIT> {
     ghost use Rattle.question.specs.Lent.{terms_of, lines_of};
 
     // The first n lines that lie in the numbers.
+    // The limit is asked where lines are made; lines that are there have it from their type.
     pub fn first_of(numbers: &'a [u64], n: usize) -> Lines<'a, LIMIT>
         requires lent { (10 * n ≤ length numbers.now) × (lines_fit LIMIT n numbers.now ≡ true) }
         requires limit { LIMIT ≤ 256 }
@@ -101,6 +103,7 @@ impl<'a, const LIMIT: usize> Lines<'a, LIMIT> {
     }
 
     // The lines that lie in ten numbers each.
+    // The limit is asked here as above.
     pub fn over(tens: &'a [[u64; 10]]) -> Lines<'a, LIMIT>
         requires fit { list_all (ten_fit LIMIT) tens.now ≡ true }
         requires limit { LIMIT ≤ 256 }

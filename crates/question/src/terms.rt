@@ -22,6 +22,7 @@ pub struct NoTerm;
 
 impl Term {
     // The two numbers that a term is lent as, its kind and its number.
+    // The layout itself, so no `From`: a pair tells no reader which is which.
     pub fn numbers(self) -> (u64, u64)
         ensures { terms_out (self ∷ []) ≡ result.0 ∷ result.1 ∷ [] }
     {
@@ -32,6 +33,7 @@ impl Term {
     }
 
     // The one number that it can be kept as: a number as itself, the variable x as 2^32 + x.
+    // Not `From`: other codes would do as well.
     pub fn code(self) -> u64
         ensures code { result ≡ code self }
         ensures own { Codes self }
@@ -49,6 +51,7 @@ impl Term {
         if let Ok(n) = u32::try_from(kept) {
             return Some(Term::Number(n));
         }
+        // Not `.ok()?`: tried, and the proof goes by three answers where this has one.
         let Ok(x) = u8::try_from(kept - 4294967296) else {
             return None;
         };
@@ -108,6 +111,7 @@ impl<'a, const LIMIT: usize> Terms<'a, LIMIT> {
     ghost use Rattle.question.specs.Lent.{terms_of};
 
     // The first n terms that lie in the numbers.
+    // The limit is asked where terms are made; terms that are there have it from their type. It is like `Lines::first_of`, but of another type of item.
     pub fn first_of(numbers: &'a [u64], n: usize) -> Terms<'a, LIMIT>
         requires lent { (2 * n ≤ length numbers.now) × (terms_fit LIMIT n numbers.now ≡ true) }
         requires limit { LIMIT ≤ 256 }

@@ -17,6 +17,7 @@ fn different(terms: Terms<'_, 16>) -> bool
     ensures { result ≡ different (terms_of terms.entry) }
 {
     let mut left = terms;
+    // Each term is looked at with those behind it, so no `for`.
     while let Some(term) = left.next() {
         let Term::Variable(x) = term else {
             return false;
@@ -29,6 +30,7 @@ fn different(terms: Terms<'_, 16>) -> bool
 }
 
 // Whether none of the lines has the line's table with another width.
+// It compares widths, so no `==`.
 fn same_width(lines: Lines<'_, 16>, line: &Line<'_, 16>) -> bool
     ensures { result ≡ same_width (lines_of lines.entry) (line_of line.now) }
 {
@@ -41,6 +43,7 @@ fn same_width(lines: Lines<'_, 16>, line: &Line<'_, 16>) -> bool
 }
 
 // Whether no table has one width in some lines and another in others.
+// It compares widths, so no `==`.
 fn same_widths(lines: Lines<'_, 16>, others: Lines<'_, 16>) -> bool
     ensures { result ≡ same_widths (lines_of lines.entry) (lines_of others.entry) }
 {
@@ -68,6 +71,7 @@ fn all_agree(reports: Reports<'_>, lines: Lines<'_, 16>) -> bool
 fn report_good(question: &Question<'_>, before: Reports<'_>, part: &[u64; 50]) -> bool
     ensures { result ≡ (report_fits part.now && (same_widths (question_of question.now).lines (question_in part.now).lines && list_all (λ r. same_widths r.lines (question_in part.now).lines) (reports_of before.entry))) }
 {
+    // Not `?`: the answer is a yes or no.
     let Ok(report) = Question::checked(part) else {
         return false;
     };

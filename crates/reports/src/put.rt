@@ -30,6 +30,7 @@ pub(crate) trait Put {
 }
 
 // The line of the table, as it is written, whose cells are the terms as they are put.
+// At most four terms is asked here: terms that are lent may be more.
 pub(crate) fn line_put<P: Put>(by: &P, table: u64, terms: Terms<'_, 16>) -> [u64; 10]
     requires { length (terms_of terms) ≤ 4 }
     ensures put { result ≡ line_out (record { table = table; cells = all_put (P.how by.now) (terms_of terms.entry) }) }

@@ -34,6 +34,7 @@ impl<'q, 'r> Test for WillDo<'q, 'r> {
 }
 
 // Writes the question over the first of the fewest of the uses that will do to the front of out, and counts them; none if none will do.
+// The room for fifty numbers is asked: whoever lends it has looked.
 fn write_fewest(test: &WillDo<'_, '_>, uses: &Uses, out: &mut [u64]) -> Option<u64>
     requires wide { lines_kept uses.now ≡ (widest (reports_of test.now.reports) (question_of test.now.question)).lines }
     requires room { 50 ≤ length out.old }

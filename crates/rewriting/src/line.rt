@@ -19,6 +19,7 @@ impl fmt::Display for Use<'_> {
 
     fn fmt<W: fmt::Write>(&self, f: &mut fmt::Formatter<W>) -> fmt::Result {
         let report = self.0.table();
+        // A use has its own text: the report's name and its terms.
         write!(f, " R{report}")?;
         for term in self.0.terms() {
             write!(f, " {term}")?;

@@ -1,6 +1,7 @@
 // What finding the fewest uses answers.
 use question::Refusal;
 
+// Three answers and no `Result`: that the reports can't answer is no refusal.
 #[derive(Clone, Copy, PartialEq, Eq, Debug)]
 pub enum Reply {
     // The reports answer it: how many uses of them that takes.

@@ -22,6 +22,7 @@ fn no_room(answer: Result<u64, Refusal>) -> bool
 }
 
 // Answers in a new room of so many numbers.
+// The size is that of the room to be made, not of the tables.
 fn answer_in(
     heap: Global,
     question: &[u64],
@@ -45,6 +46,7 @@ pub fn answer_in_room(
     ensures { IfOk result (λ a. InRoom question.now tables.now a.out.items a.answer) }
 {
     let mut size = 65_536;
+    // A larger room until one does: there is no list.
     loop {
         let answered = answer_in(heap, question, tables, size)?;
         if !no_room(answered.answer) || size == 16_777_216 {

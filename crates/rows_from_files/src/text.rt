@@ -13,6 +13,7 @@ use std::alloc::{AllocError, Global};
 use wire::{read_question, write_rows};
 
 // The text of so many rows, which lie one after another in the numbers.
+// Rows of no columns are counted too, which the numbers can't tell.
 fn rows_text(
     heap: Global,
     columns: usize,

@@ -63,6 +63,7 @@ fn show_refusals(rt: &HostRuntime) -> io::Result<()> {
     show(rt, "4096 rows of no columns", &good, &[1, 0, 4096, 0], 1)
 }
 
+// A program's list of what it shows, as `edges` has one of its own.
 pub fn show_all(rt: &HostRuntime) -> io::Result<()> {
     show_rows(rt)?;
     show_refusals(rt)

@@ -134,6 +134,7 @@ impl Tally {
         self.count_in(&asked.question, &rows, &found);
         let question = asked.lent(heap, dice)?;
         let mut lent = lent_tables(heap, &tables)?;
+        // So many are drawn: there is no list.
         for _ in 0..dice.below(3) {
             lent.push(7)?;
         }
@@ -153,6 +154,7 @@ impl Tally {
 pub fn try_all(rt: &HostRuntime, count: u64) -> io::Result<u64> {
     let mut dice = Dice::new(5342896174203571);
     let mut tally = Tally::default();
+    // So many are drawn: there is no list.
     for _ in 0..count {
         let shape = draw_kind(&mut dice);
         let asked = Asked::draw(rt.alloc(), &mut dice, shape)?;

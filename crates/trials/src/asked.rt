@@ -66,6 +66,7 @@ impl Request {
         let (shape, count) = draw_kind(dice);
         let question = shape.draw_question(heap, dice)?;
         let mut reports = Vec::new(heap);
+        // So many are drawn: there is no list.
         for _ in 0..count {
             reports.push(draw_report(heap, dice, &shape, &question)?)?;
         }

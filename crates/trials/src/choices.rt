@@ -6,6 +6,7 @@ use std::alloc::{AllocError, Global};
 type Choice = Vec<usize>;
 
 // The choices of one line more, of count lines: each goes on with every place behind its last.
+// The count is that of the lines, not of the choices.
 fn longer(heap: Global, choices: &[Choice], count: usize) -> Result<Vec<Choice>, AllocError> {
     let mut more = Vec::new(heap);
     for choice in choices {
@@ -13,6 +14,7 @@ fn longer(heap: Global, choices: &[Choice], count: usize) -> Result<Vec<Choice>,
             Some(last) => last.saturating_add(1),
             None => 0,
         };
+        // The places by number: a choice is a list of places.
         for place in next..count {
             let mut places = choice.clone()?;
             places.push(place)?;
@@ -58,6 +60,7 @@ pub fn smallest<F: FnMut(&[Line]) -> Result<bool, AllocError>>(
         equal: 0,
     };
     let mut choices = vec![in heap; Vec::new(heap)]?;
+    // Four sizes: each is made of the one before.
     for _ in 0..4 {
         choices = longer(heap, &choices, lines.len())?;
         for choice in &choices {
@@ -77,6 +80,7 @@ pub fn smallest<F: FnMut(&[Line]) -> Result<bool, AllocError>>(
 pub fn count_choices(count: u64) -> u64 {
     let mut choices: u64 = 0;
     let mut of_size: u64 = 1;
+    // Four sizes: each is counted from the one before.
     for i in 0..4u64 {
         of_size = of_size.saturating_mul(count.saturating_sub(i)) / (i + 1);
         choices = choices.saturating_add(of_size);

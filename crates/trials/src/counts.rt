@@ -9,6 +9,7 @@ impl Count {
         self.0 = self.0.saturating_add(more);
     }
 
+    // A yes or no that is counted, no kind.
     pub fn add_if(&mut self, so: bool) {
         self.add(u64::from(so));
     }

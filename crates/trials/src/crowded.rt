@@ -14,6 +14,7 @@ fn draw_question(heap: Global, dice: &mut Dice) -> Result<Plain, AllocError> {
         (row(heap, &[x(3), x(0), x(1), x(2)])?, 3)
     };
     let mut question = start;
+    // So many lines, each by its number: there is no list.
     for i in 0..=last {
         question = question.and(0, x(i), x(dice.below(4)))?;
     }
@@ -41,6 +42,7 @@ fn draw_report(heap: Global, dice: &mut Dice) -> Result<Plain, AllocError> {
 pub fn draw_crowded(heap: Global, dice: &mut Dice) -> Result<Request, AllocError> {
     let question = draw_question(heap, dice)?;
     let mut reports = Vec::new(heap);
+    // So many are drawn: there is no list.
     for _ in 0..dice.from_to(2, 4) {
         reports.push(draw_report(heap, dice)?)?;
     }

@@ -58,6 +58,7 @@ impl Shape {
     // A question of that shape; now and then with a line twice.
     pub fn draw_question(&self, heap: Global, dice: &mut Dice) -> Result<Plain, AllocError> {
         let mut lines = Vec::new(heap);
+        // So many are drawn: there is no list.
         for _ in 0..self.lines {
             lines.push(self.draw_line(heap, dice)?)?;
         }
@@ -157,6 +158,7 @@ fn loosened_line(
 }
 
 // So many of the lines under other names.
+// How many are drawn, not how many lines there are.
 pub fn draw_part(
     heap: Global,
     dice: &mut Dice,
@@ -165,6 +167,7 @@ pub fn draw_part(
     loose: u64,
 ) -> Result<Vec<Line>, AllocError> {
     let mut part = Vec::new(heap);
+    // So many are drawn: there is no list.
     for _ in 0..count {
         if let Some(line) = dice.one_of(lines) {
             part.push(loosened_line(heap, dice, line, loose)?)?;

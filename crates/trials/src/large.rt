@@ -63,6 +63,7 @@ impl Kind {
     fn draw_row(&self, heap: Global, dice: &mut Dice, width: u64) -> Result<Vec<u64>, AllocError> {
         let mut row = Vec::new(heap);
         let mut last = self.least;
+        // Four are drawn: there is no list.
         for i in 0..4u64 {
             if i == 0 || !dice.once_in(4) {
                 last = dice.below(self.values).saturating_add(self.least);
@@ -97,6 +98,7 @@ impl Kind {
             return x(dice.below(8));
         }
         match table {
+            // One expression for each table: no function is picked.
             0 => x(1 + place % 2),
             1 => x(3 + place % 2),
             _ => x(5 + place % 2),
@@ -104,6 +106,7 @@ impl Kind {
     }
 
     // A line over a table, with x0 at one of its places.
+    // The table's width, which tells how many terms are drawn.
     fn draw_line(
         &self,
         heap: Global,
@@ -214,6 +217,7 @@ impl Tally {
 pub fn try_all(rt: &HostRuntime, count: u64) -> io::Result<u64> {
     let mut dice = Dice::new(60127043185229);
     let mut tally = Tally::default();
+    // So many are drawn: there is no list.
     for _ in 0..count {
         tally.try_question(rt, &mut dice)?;
     }

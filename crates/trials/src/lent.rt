@@ -9,6 +9,7 @@ use std::alloc::{AllocError, Global};
 pub struct Table {
     pub number: u64,
     pub height: u64,
+    // The layout has both, and a table of no rows has a width too.
     pub width: u64,
     pub rows: Vec<Vec<u64>>,
 }
@@ -25,6 +26,7 @@ impl Table {
     }
 
     // A table of so many rows, each made from its place.
+    // The height and the width are those of the table that is made.
     pub fn made<F: FnMut(u64) -> Result<Vec<u64>, AllocError>>(
         heap: Global,
         number: u64,
@@ -35,6 +37,7 @@ impl Table {
         requires { F.IsAlwaysCallable make_row }
     {
         let mut table = Table::empty(heap, number, height, width);
+        // So many are made: there is no list.
         for place in 0..height {
             table.rows.push(make_row(place)?)?;
         }
@@ -42,6 +45,7 @@ impl Table {
     }
 
     // A table of up to twenty rows, some of which stand twice.
+    // The width is that of the table; the values are what is drawn from.
     fn draw(
         heap: Global,
         dice: &mut Dice,
@@ -87,6 +91,7 @@ fn draw_values(heap: Global, dice: &mut Dice) -> Result<Vec<u64>, AllocError> {
 }
 
 // Four cells are drawn whatever the width.
+// The width is that of the row; the values are what is drawn from.
 fn draw_row(
     heap: Global,
     dice: &mut Dice,
@@ -118,6 +123,7 @@ impl Asked {
     }
 
     // So many tables more.
+    // How many tables are drawn.
     pub fn draw_tables(
         &self,
         heap: Global,
@@ -126,6 +132,7 @@ impl Asked {
         tables: &mut Vec<Table>,
     ) -> Result<(), AllocError> {
         let values = draw_values(heap, dice)?;
+        // So many are drawn: there is no list.
         for i in 0..count {
             let (number, width) = self.draw_name(dice, i);
             tables.push(Table::draw(heap, dice, &values, number, width)?)?;

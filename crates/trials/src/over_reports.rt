@@ -39,6 +39,7 @@ pub fn held(heap: Global, reports: &[Plain], lines: &[Line]) -> Result<Vec<Line>
 // Where a use puts its report's variables: those of the row as the use's terms, and every other as a variable of its own.
 fn map_of_use(report: &Plain, line: &Line, number: usize) -> Map<80> {
     let mut map = Map::new();
+    // The variables x0 to x15.
     for x in 0..16u64 {
         let inner = 16 + 16 * (number as u64 % 4) + x;
         map.put(x, Term::Variable(inner));

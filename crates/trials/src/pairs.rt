@@ -63,6 +63,7 @@ fn draw_second(
     first: &Plain,
 ) -> Result<Plain, AllocError> {
     match dice.below(8) {
+        // Each kind draws by a call of its own, with other arguments.
         0 => small_shape(dice).draw_question(heap, dice),
         1 => shape.draw_question(heap, dice),
         _ => draw_wider(heap, dice, first),
@@ -86,6 +87,7 @@ fn read_table<'a>(
         return Ok(None);
     };
     let mut behind = cells;
+    // So many: what comes next is known only when the one before is read.
     for _ in 0..(*count).min(4) {
         let Some((row, more)) = behind.split_at_checked(*width as usize) else {
             return Ok(None);
@@ -103,6 +105,7 @@ fn read_tables(heap: Global, numbers: &[u64]) -> Result<Option<Vec<Line>>, Alloc
     };
     let mut rows = Vec::new(heap);
     let mut behind = tables;
+    // So many: what comes next is known only when the one before is read.
     for _ in 0..(*count).min(4) {
         let Some(more) = read_table(heap, behind, &mut rows)? else {
             return Ok(None);
@@ -186,6 +189,7 @@ pub fn try_all(rt: &HostRuntime, count: u64) -> io::Result<u64> {
     let heap = rt.alloc();
     let mut dice = Dice::new(2463534242);
     let mut tally = Tally::default();
+    // So many are drawn: there is no list.
     for _ in 0..count {
         let shape = small_shape(&mut dice);
         let first = shape.draw_question(heap, &mut dice)?;

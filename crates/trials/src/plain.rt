@@ -43,6 +43,7 @@ impl From<Term> for [u64; 2] {
 }
 
 // As a program prints it: 7 or x0.
+// Not the crate's own: what is tried is told apart from what tries it.
 impl fmt::Display for Term {
     fn fmt<W: fmt::Write>(&self, f: &mut fmt::Formatter<W>) -> fmt::Result {
         match *self {

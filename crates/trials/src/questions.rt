@@ -81,6 +81,7 @@ impl Asked {
     pub fn lent(&self, heap: Global, dice: &mut Dice) -> Result<Vec<u64>, AllocError> {
         let soil = draw_soil(dice);
         let mut lent = Vec::from_slice(heap, &self.question.lent(soil))?;
+        // So many are drawn: there is no list.
         for _ in 0..dice.below(3) {
             lent.push(soil)?;
         }

@@ -139,6 +139,7 @@ fn any_fit<F: FnMut(&Map<80>) -> Result<bool, AllocError>>(
             map.put(one.variable, *first);
         }
     }
+    // So many maps: each is counted on from the one before.
     for _ in 0..count_maps(terms.len(), free.len()) {
         if map.fits(lines, others) && enough(&map)? {
             return Ok(true);

@@ -120,6 +120,7 @@ impl Tally {
         found: &Plain,
     ) -> Result<bool, AllocError> {
         let mut all = true;
+        // Three are drawn: there is no list.
         for _ in 0..3 {
             let tables = draw_tables(heap, dice, &request.widths)?;
             let (same, rows) = answers_agree(heap, request, found, &tables)?;
@@ -189,6 +190,7 @@ pub fn try_all(rt: &HostRuntime, count: u64) -> io::Result<u64> {
     let heap = rt.alloc();
     let mut dice = Dice::new(88172645463325252);
     let mut tally = Tally::default();
+    // So many are drawn: there is no list.
     for _ in 0..count {
         let request = Request::draw(heap, &mut dice)?;
         if request.widest.len() > 32 || request.work(heap)? <= MOST {

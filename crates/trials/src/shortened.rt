@@ -77,6 +77,7 @@ impl Tally {
 pub fn try_all(rt: &HostRuntime, count: u64) -> io::Result<u64> {
     let mut dice = Dice::new(1181783497276652981);
     let mut tally = Tally::default();
+    // So many are drawn: there is no list.
     for _ in 0..count {
         let mut shape = Shape::draw(&mut dice);
         shape.lines = dice.from_to(2, 4);

@@ -16,6 +16,7 @@ impl fmt::Display for Numbers<'_> {
 }
 
 // A question over reports: by 2: R0 x0 x2, R1 x0 x3.
+// It prints what was found, piece by piece: no type has this as its text.
 pub fn show_found(rt: &HostRuntime, uses: u64, out: &[u64; 52]) -> io::Result<()> {
     print!(rt; "by {uses}:")?;
     let lines = out[10..50].as_chunks::<10>().0;

@@ -7,6 +7,7 @@ use super::reading::images;
 use std::alloc::{AllocError, Global};
 
 // A row of a table with so many columns.
+// The width is that of the row; the values are what is drawn from.
 fn draw_table_row(
     heap: Global,
     dice: &mut Dice,
@@ -29,6 +30,7 @@ pub fn draw_tables(
     let mut rows = Vec::new(heap);
     let values = dice.from_to(2, 4);
     for (table, width) in widths.iter().enumerate() {
+        // So many are drawn: there is no list.
         for _ in 0..dice.from_to(0, 6) {
             rows.push(draw_table_row(heap, dice, table as u64, *width, values)?)?;
         }
@@ -37,6 +39,7 @@ pub fn draw_tables(
 }
 
 // Whether every row of the first is one of the second.
+// It compares lists by what they hold, whatever the order, so no `==`.
 pub fn all_among(rows: &[Vec<Term>], others: &[Vec<Term>]) -> bool {
     rows.iter().all(|row| others.contains(row))
 }

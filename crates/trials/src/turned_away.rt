@@ -176,6 +176,7 @@ fn draw_large_table(heap: Global, dice: &mut Dice, number: u64) -> Result<Table,
 }
 
 // Tables, one of them too large, and its place. It may be one that no line names.
+// Whether a table goes past its room is drawn, and is no kind.
 fn draw_tables(
     heap: Global,
     dice: &mut Dice,
@@ -215,6 +216,7 @@ fn lent_short(
     match dice.below(4) {
         0 => tables.push(draw_past(heap, dice))?,
         1 => {
+            // Up to seventeen: there is no list.
             for _ in tables.len()..17 {
                 tables.push(Table::empty(heap, 0, 0, 1))?;
             }
@@ -282,6 +284,7 @@ impl Lent {
 }
 
 impl Tally {
+    // A yes or no that is counted, no kind.
     fn count_in(&mut self, first: Fault, several: bool) {
         match first {
             Fault::ShortQuestion => self.short_questions.add(1),
@@ -324,6 +327,7 @@ impl Tally {
 pub fn try_all(rt: &HostRuntime, count: u64) -> io::Result<u64> {
     let mut dice = Dice::new(771398264501873);
     let mut tally = Tally::default();
+    // So many are drawn: there is no list.
     for _ in 0..count {
         let faults = draw_faults(rt.alloc(), &mut dice)?;
         tally.try_faults(rt, &mut dice, &faults)?;

@@ -1,8 +1,7 @@
 -- Room that is filled from its front, part by part: what stands in it so far, and what is left to read, give the whole.
 use Rattle.std.proofs.Common.{◌≡◌, ℕ, suc, ◌+◌, ◌-◌, ◌*◌, ◌<◌, ◌≤◌, true, false, leb, List, [], ◌∷◌, ◌++◌, length, take, drop, set, replicate, Some, None, Option, sym, refl, ap, ◌∙◌, inl, inr, arith}
-use borrow.Rule.Slice.PartMut.{put_mid}
 use Rattle.std.proofs.lemmas.List.{append_assoc, append-nil, set_at, take_at, take_all, drop_at, drop_all, drop-drop, drop-replicate, take-append-drop, length-append, length-take, length-drop, length-replicate}
-use Rattle.std.proofs.Math.Nat.{mul-le-mul_left, mul-zero, mul-add, mul_comm}
+use Rattle.std.proofs.Math.Nat.{mul-le-mul_left, mul-add, mul_comm}
 use Rattle.std.proofs.lemmas.Bool.Decides.{nat_tests, leb_tells}
 use Rattle.wire.specs.Bytes.{Reads, gives, ◌>>=◌, times, in_room, read_byte, read_term, read_row, read_line, read_question, read_reports}
 use denote.Ref.{MutBor}
@@ -56,12 +55,6 @@ kept-fits at part room h = let e : leb (at + length part) (length room) ≡ true
 
 pub kept_past : (at : ℕ) (part room : List ℕ) → length room < at + length part → kept at part room ≡ room
 kept_past at part room h = let e : leb (at + length part) (length room) ≡ false = grind (arith, nat_tests) in rw e
-
-pub kept_put : (at : ℕ) (part room : List ℕ) → at + length part ≤ length room
-    → put_mid at (at + length part - at) room part ≡ kept at part room
-kept_put at part room h =
-    let e : at + length part - at ≡ length part = omega arith in
-    rw (kept-fits at part room h, e, drop-drop (length part) at room)
 
 -- the room with a part put at the place up to which it is filled
 pub take-kept : (at : ℕ) (part room : List ℕ) → at + length part ≤ length room → take (at + length part) (kept at part room) ≡ take at room ++ part
@@ -169,13 +162,6 @@ module _ {P : Type 0} (post : MutBor Reader → Option P → MutBor Reader → T
   PartsLeft size count i room bytes all =
       (n k : ℕ) → 0 < n → size ≡ n * k → HasSize post items n → (reads : Reads (List ℕ)) → ReadsBy post items reads
       → Filling size (n * i) room (times (count - i) reads bytes) (behind size [] (times count reads all))
-
-  pub parts_start : (size count : ℕ) (room bytes : List ℕ) → room ≡ replicate size 0 → PartsLeft size count 0 room bytes bytes
-  parts_start size count room bytes zeros n k h e s reads r =
-      let z : n * 0 ≡ 0 = mul-zero n in
-      let m : count - 0 ≡ count = omega arith in
-      let l : size - 0 ≡ size = omega arith in
-      rw (z, m, zeros) (filling_start size 0 [] (replicate size 0) (times count reads bytes) refl (omega arith) (rw l refl))
 
   pub parts_short : (size count i : ℕ) (room all : List ℕ) (m m2 : MutBor Reader) (n k : ℕ) → PartsLeft size count i room (left m.now) all → i < count → post m None m2
       → 0 < n → size ≡ n * k → HasSize post items n → (reads : Reads (List ℕ)) → ReadsBy post items reads → behind size [] (times count reads all) ≡ None

@@ -8,6 +8,7 @@ use std::alloc::{AllocFailed, Global};
 
 #[derive(Drop)]
 pub struct Table {
+    // Rows of no columns are counted too, which the cells can't tell.
     pub rows: u64,
     pub columns: u64,
     // Row by row.
@@ -85,6 +86,7 @@ impl Table {
         if self.rows > 0 && width != self.columns {
             return Err(TableFault::Line(self.rows + 1));
         }
+        // The count is the answer.
         self.rows += 1;
         self.columns = width;
         Ok(())

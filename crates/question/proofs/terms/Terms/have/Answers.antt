@@ -1,4 +1,4 @@
-use Rattle.std.proofs.Common.{rules, tests, ◌≡◌, ◌∙◌, [], ◌∷◌, refl}
+use Rattle.std.proofs.Common.{rules, tests, ◌∙◌, [], ◌∷◌, refl}
 use Rattle.std.proofs.lemmas.Iterator.Search.{any_from_yields_List}
 use Rattle.std.proofs.lemmas.Iterator.Consumers.{YieldsList-from_first}
 use Rattle.question.specs.Sound.{has, vars}

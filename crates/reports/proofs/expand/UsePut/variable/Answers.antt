@@ -5,10 +5,6 @@ use Rattle.reports.specs.Expand.{assign}
 use Rattle.reports.proofs.Putting.{assign-found, assign_other, assign_row, assign_cells}
 use Rattle.reports.proofs.expand.UsePut.variable.Goals as goal
 
-pub loop-term-init : goal.loop-term-init
-loop-term-init c =
-    ((tt, tt), tt, rw (c.into_iter-term-iterator.ensures.into_iter_gives, c.zip-term-items.ensures.first, c.zip-term-items.ensures.second, c.row.ensures.row, c.terms.ensures))
-
 pub returns-then-eq : goal.returns-then-eq
 returns-then-eq c =
     let e : c.in-Some.term ≡ Variable c.args.x = search (rules, tests) in

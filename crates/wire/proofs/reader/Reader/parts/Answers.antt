@@ -1,10 +1,6 @@
-use Rattle.std.proofs.Common.{length, arith}
-use Rattle.wire.specs.Reading.{left}
-use Rattle.wire.proofs.Filling.{parts_start, parts_short, parts_more, parts_done}
+use Rattle.std.proofs.Common.{arith}
+use Rattle.wire.proofs.Filling.{parts_short, parts_more, parts_done}
 use Rattle.wire.proofs.reader.Reader.parts.Goals as goal
-
-pub loop-i-init : goal.loop-i-init
-loop-i-init g c = parts_start _ _ (length c.args.room.now) c.args.count c.args.room.now (left c.args.self.now) c.requires.zeros.0
 
 pub returns-in_err-part : goal.returns-in_err-part
 returns-in_err-part g c =

@@ -1,7 +1,7 @@
 -- What the copying puts behind the rows, step by step.
-use Rattle.std.proofs.Common.{◌≡◌, ℕ, zero, suc, ◌<◌, true, false, cond, eqb, ltb, List, [], ◌∷◌, ◌++◌, length, get_or, drop, sym, refl, ap, ◌∙◌, arith}
+use Rattle.std.proofs.Common.{◌≡◌, ℕ, zero, suc, ◌+◌, ◌-◌, ◌*◌, ◌<◌, ◌≤◌, Bool, true, false, cond, eqb, ltb, List, [], ◌∷◌, ◌++◌, length, get_or, take, drop, sym, refl, ap, ◌∙◌, add-mul, one-mul, arith}
 use Rattle.std.proofs.lemmas.Bool.Decides.{nat_tests}
-use Rattle.std.proofs.lemmas.List.{append_assoc, get_or-map}
+use Rattle.std.proofs.lemmas.List.{append_assoc, get_or-map, length-take, length-drop}
 use Rattle.question.specs.declared.terms.Term.{Term}
 use Rattle.question.specs.Question.{Row}
 use Rattle.question.specs.Tables.{rows_in, table_size, table_rows}
@@ -9,6 +9,7 @@ use Rattle.answer.specs.Taking.{takes, copy_cell, copy_row, copies_of, first_row
 use Rattle.answer.specs.declared.columns.Column.{Column}
 use Rattle.answer.specs.Columns.{order_of}
 use Rattle.answer.specs.Lent.{tables_from}
+use Rattle.answer.proofs.Takings.{takes-wide}
 
 module _ (id : ℕ) (cols : List ℕ) (ts : List Term) where
   pub copies-append : (rs ss : List Row) → copies_of id cols ts (rs ++ ss) ≡ copies_of id cols ts rs ++ copies_of id cols ts ss
@@ -30,6 +31,25 @@ module _ (id : ℕ) (cols : List ℕ) (ts : List Term) where
   pub no-copies : (rs : List Row) → rs ≡ [] → copies_of id cols ts rs ≡ []
   unfolding copies_of
   no-copies rs e = rw e refl
+
+  not_taken : (r : Row) → (length r ≡ length ts → ⊥) → takes ts r ≡ false
+  not_taken r f = go (takes ts r) refl
+    where
+      go : (b : Bool) → takes ts r ≡ b → b ≡ false
+      go true e = absurd (f (takes-wide ts r e))
+      go false e = refl
+
+  -- a table of another width has no row that is taken
+  pub other_width : (n w : ℕ) (xs : List ℕ) → (w ≡ length ts → ⊥) → n * w ≤ length xs → copies_of id cols ts (rows_in n w xs) ≡ []
+  unfolding rows_in copies_of
+  other_width zero w xs f h = refl
+  other_width (suc n) w xs f h =
+      let s : (n + 1) * w ≡ n * w + 1 * w = add-mul n 1 w in
+      let room : n * w + w ≤ length xs = omega (arith, h, s, one-mul w) in
+      let wide : length (take w xs) ≡ w = simp length-take (omega arith) in
+      let here : takes ts (take w xs) ≡ false = not_taken (take w xs) (λ e. f (sym wide ∙ e)) in
+      let left : length (drop w xs) ≡ length xs - w = simp length-drop in
+      rw here (other_width n w (drop w xs) f (omega arith))
 
 -- the rows of the tables with the number, of tables one by one
 abbrev pub named_rows : ℕ → List (List ℕ) → List Row

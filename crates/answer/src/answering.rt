@@ -9,7 +9,7 @@ ghost use Rattle.answer.specs.Answered.{answer_refusal, RowsOut, Meant};
 
 use super::copies::copy_tables;
 use super::plan::SlotPlan;
-use super::tables::Tables;
+use super::tables::{Tables, check_tables};
 use join::{Join, NoRoomAfter, Row};
 use narrow::narrow;
 use question::{Question, Refusal};
@@ -27,10 +27,10 @@ fn checked<'a>(
     if question.len() < 50 {
         return Err(Refusal::CutShort(question.len() as u64));
     }
-    let tables = Tables::whole(tables)?;
+    let whole = Tables::whole(tables)?;
     let question = Question::checked(question)?;
-    tables.small()?;
-    Ok((question, tables))
+    check_tables(tables)?;
+    Ok((question, whole))
 }
 
 // Puts out the rows that the plan gives over the copied tables, the lines narrowed first.

@@ -106,6 +106,10 @@ impl<'a> Copier<'a> {
     fn copy_rows(&self, table: &Table<'_>, rows: &mut Vec<Row>) -> Result<(), AllocError>
         ensures { OnOk result (rows.new.items ≡ rows.old.items ++ copies_of self.now.id (order_of self.now.columns.now) self.now.terms.now (held_by table.now)) }
     {
+        // A table of another width has no row that the line takes: it is passed over whole.
+        if table.columns() != self.terms.len() as u64 {
+            return Ok(());
+        }
         for row in table.rows() {
             if takes(self.terms, row) {
                 rows.push(self.copy(row))?;

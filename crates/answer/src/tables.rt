@@ -66,6 +66,13 @@ impl<'a> Table<'a> {
         self.numbers[0]
     }
 
+    // How many columns it has.
+    pub(crate) fn columns(&self) -> u64
+        ensures { result ≡ slice_index self.now.numbers.now 2 }
+    {
+        self.numbers[2]
+    }
+
     // Its rows.
     pub(crate) fn rows(&self) -> Rows<'a>
         ensures { rows_of result ≡ held_by self.now }

@@ -1,6 +1,7 @@
 // The first choice of lines that passes a test, by size and then by places.
 ghost use Rattle.std.specs.Prelude.{◌≡◌, ◌<◌, ◌≤◌, length};
 ghost use Rattle.std.specs.Option.{option_map};
+ghost use Rattle.question.specs.Question.{Line, In};
 ghost use Rattle.question.specs.Lent.{lines_of};
 ghost use Rattle.minimization.specs.Choices.{choices, first_right, first_after, by_size};
 ghost use Rattle.minimization.specs.Meant.{meant};
@@ -9,10 +10,10 @@ use super::chosen::Chosen;
 use super::test::Test;
 use question::Lines;
 
-// Lines to choose from, and the test that a choice of them has to pass.
-#[derive(Clone, Copy)]
+// Lines to choose from, and the test that a choice of them has to pass. It is lent, so that no test has to be `Copy`.
+#[derive_where(Clone, Copy)]
 pub struct Candidates<'a, T: Test> {
-    pub test: T,
+    pub test: &'a T,
     pub lines: Lines<'a, 16>,
 }
 
@@ -20,8 +21,11 @@ pub struct Candidates<'a, T: Test> {
 impl<'a, T: Test> Candidates<'a, T> {
     // The chosen lines and the first of those behind them that they pass with.
     fn first_with(&self, chosen: &Chosen, behind: &Lines<'_, 16>) -> Option<Chosen>
-        requires { length (meant chosen.now) < 4 }
-        ensures { option_map meant result ≡ first_after (T.decides self.now.test) (meant chosen.now) 1 (lines_of behind.now) }
+        requires asked { T.ready self.now.test.now }
+        requires few { length (meant chosen.now) < 4 }
+        requires taken { (l : Line) → In l (meant chosen.now) → T.takes self.now.test.now l }
+        requires behind { (l : Line) → In l (lines_of behind.now) → T.takes self.now.test.now l }
+        ensures { option_map meant result ≡ first_after (T.decides self.now.test.now) (meant chosen.now) 1 (lines_of behind.now) }
     {
         for line in *behind {
             let more = chosen.with(&line);
@@ -34,14 +38,18 @@ impl<'a, T: Test> Candidates<'a, T> {
 
     // The first line that passes.
     fn first_one(&self) -> Option<Chosen>
-        ensures { option_map meant result ≡ first_right (T.decides self.now.test) (choices 1 (lines_of self.now.lines)) }
+        requires asked { T.ready self.now.test.now }
+        requires taken { (l : Line) → In l (lines_of self.now.lines) → T.takes self.now.test.now l }
+        ensures { option_map meant result ≡ first_right (T.decides self.now.test.now) (choices 1 (lines_of self.now.lines)) }
     {
         self.first_with(&Chosen::nothing(), &self.lines)
     }
 
     // The first two lines that pass.
     fn first_two(&self) -> Option<Chosen>
-        ensures { option_map meant result ≡ first_right (T.decides self.now.test) (choices 2 (lines_of self.now.lines)) }
+        requires asked { T.ready self.now.test.now }
+        requires taken { (l : Line) → In l (lines_of self.now.lines) → T.takes self.now.test.now l }
+        ensures { option_map meant result ≡ first_right (T.decides self.now.test.now) (choices 2 (lines_of self.now.lines)) }
     {
         let none = Chosen::nothing();
         let mut first = None;
@@ -59,7 +67,9 @@ impl<'a, T: Test> Candidates<'a, T> {
 
     // The first three lines that pass.
     fn first_three(&self) -> Option<Chosen>
-        ensures { option_map meant result ≡ first_right (T.decides self.now.test) (choices 3 (lines_of self.now.lines)) }
+        requires asked { T.ready self.now.test.now }
+        requires taken { (l : Line) → In l (lines_of self.now.lines) → T.takes self.now.test.now l }
+        ensures { option_map meant result ≡ first_right (T.decides self.now.test.now) (choices 3 (lines_of self.now.lines)) }
     {
         let none = Chosen::nothing();
         let mut first = None;
@@ -81,7 +91,9 @@ impl<'a, T: Test> Candidates<'a, T> {
 
     // The first four lines that pass.
     fn first_four(&self) -> Option<Chosen>
-        ensures { option_map meant result ≡ first_right (T.decides self.now.test) (choices 4 (lines_of self.now.lines)) }
+        requires asked { T.ready self.now.test.now }
+        requires taken { (l : Line) → In l (lines_of self.now.lines) → T.takes self.now.test.now l }
+        ensures { option_map meant result ≡ first_right (T.decides self.now.test.now) (choices 4 (lines_of self.now.lines)) }
     {
         let none = Chosen::nothing();
         let mut first = None;
@@ -107,8 +119,10 @@ impl<'a, T: Test> Candidates<'a, T> {
 
     // The first choice of n lines that passes.
     pub fn first_choice(&self, n: usize) -> Option<Chosen>
-        requires { (1 ≤ n) × (n ≤ 4) }
-        ensures { option_map meant result ≡ first_right (T.decides self.now.test) (choices n (lines_of self.now.lines)) }
+        requires asked { T.ready self.now.test.now }
+        requires taken { (l : Line) → In l (lines_of self.now.lines) → T.takes self.now.test.now l }
+        requires size { (1 ≤ n) × (n ≤ 4) }
+        ensures { option_map meant result ≡ first_right (T.decides self.now.test.now) (choices n (lines_of self.now.lines)) }
     {
         match n {
             1 => self.first_one(),
@@ -120,8 +134,10 @@ impl<'a, T: Test> Candidates<'a, T> {
 
     // The first choice that passes: the fewest lines, at most `most`, and of those the first by places.
     pub fn first_of_sizes(&self, most: usize) -> Option<Chosen>
-        requires { most ≤ 4 }
-        ensures { option_map meant result ≡ by_size (T.decides self.now.test) (lines_of self.now.lines) most 1 }
+        requires asked { T.ready self.now.test.now }
+        requires taken { (l : Line) → In l (lines_of self.now.lines) → T.takes self.now.test.now l }
+        requires size { most ≤ 4 }
+        ensures { option_map meant result ≡ by_size (T.decides self.now.test.now) (lines_of self.now.lines) most 1 }
     {
         // The sizes, from one on.
         for n in 1..=most {

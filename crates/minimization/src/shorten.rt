@@ -19,6 +19,10 @@ struct SaysSame<'a> {
 impl<'a> Test for SaysSame<'a> {
     ghost decides = { λ s. says_same (question_of s.question) };
 
+    ghost ready = { λ _. Unit {0} };
+
+    ghost takes = { λ _ _. Unit {0} };
+
     fn passes(&self, lines: &Lines<'_, 16>) -> bool {
         reads_into(&self.question, lines)
     }
@@ -35,7 +39,7 @@ fn write_least(question: &Question<'_>, out: &mut [u64]) -> u64
     let test = SaysSame {
         question: *question,
     };
-    let candidates = Candidates { test, lines };
+    let candidates = Candidates { test: &test, lines };
     let Some(chosen) = candidates.first_of_sizes(lines.count_left()) else {
         unreachable!()
     };

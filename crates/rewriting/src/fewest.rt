@@ -26,6 +26,10 @@ struct WillDo<'q, 'r> {
 impl<'q, 'r> Test for WillDo<'q, 'r> {
     ghost decides = { λ s. will_do (reports_of s.reports) 16 16 (question_of s.question) };
 
+    ghost ready = { λ _. Unit {0} };
+
+    ghost takes = { λ _ _. Unit {0} };
+
     fn passes(&self, lines: &Lines<'_, 16>) -> bool {
         let expanded = expand_uses(&self.reports, lines);
         let put_in = expanded.lines();
@@ -43,7 +47,7 @@ fn write_fewest(test: &WillDo<'_, '_>, uses: &Uses, out: &mut [u64]) -> Option<u
 {
     let question = test.question;
     let candidates = Candidates {
-        test: *test,
+        test,
         lines: uses.lines(),
     };
     let most = question.lines().count_left();

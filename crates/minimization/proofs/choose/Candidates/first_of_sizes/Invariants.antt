@@ -5,5 +5,5 @@ use Rattle.minimization.proofs.choose.Candidates.first_of_sizes.Given as goal
 
 abbrev pub invariant-loop-n : goal.invariant-loop-n
 invariant-loop-n g l =
-    let sizes = by_size (g.T.Test.decides l.self.test) (lines_of l.self.lines) in
+    let sizes = by_size (g.T.Test.decides l.self.test.now) (lines_of l.self.lines) in
     sizes (l.most + 1 - l.n) l.n ≡ sizes l.most 1

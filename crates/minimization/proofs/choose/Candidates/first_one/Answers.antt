@@ -6,6 +6,6 @@ use Rattle.minimization.proofs.choose.Candidates.first_one.Goals as goal
 
 pub returns : goal.returns
 returns g c =
-    let f = g.T.Test.decides c.args.self.now.test in
+    let f = g.T.Test.decides c.args.self.now.test.now in
     let ws = lines_of c.args.self.now.lines in
     c.first_with.ensures ∙ ap (λ p. first_after f p 1 ws) c.nothing.ensures ∙ after_none f 1 ws

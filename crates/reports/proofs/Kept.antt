@@ -1,23 +1,20 @@
 -- Uses as they are kept: the order of written lines is the order of lines, and where a search says that a line belongs is where it is put in.
-use Rattle.std.proofs.Common.{◌≡◌, ℕ, zero, suc, ◌-◌, ◌*◌, ◌<◌, ◌≤◌, true, false, List, [], ◌∷◌, ◌++◌, map, length, get_or, take, drop, replicate, ◌⊎◌, Result, Ok, Err, MatchResult, sym, refl, ap, ◌∙◌, subst, ap₂, inl, inr, eq-eqb, arith, tests}
+use Rattle.std.proofs.Common.{◌≡◌, ℕ, zero, suc, ◌+◌, ◌-◌, ◌*◌, ◌<◌, ◌≤◌, true, false, List, [], ◌∷◌, ◌++◌, map, length, get_or, set, take, drop, replicate, ◌⊎◌, Err, sym, refl, ap, ◌∙◌, subst, ap₂, inl, inr, eq-eqb, arith, tests}
 use Rattle.std.specs.declared.cmp.Ordering.{Ordering}
 use Rattle.std.specs.declared.cmp.Ordering.TheVariants.{Less, Equal, Greater}
 use Rattle.std.specs.Ordering.{ordering_then, ordering_reverse, ordering_index, nat_cmp, is_lt}
-use Rattle.std.specs.Result.{IsErrAnd, IsOk, OnOk, OnErr}
 use Rattle.std.specs.Cmp.{IsTotalOrder}
 use Rattle.std.specs.Cmp.Lexicographic.{slice_cmp, nat_list_cmp_total}
-use Rattle.std.specs.List.{list_all, insert, AllByRecursion, HoldsAt}
+use Rattle.std.specs.List.{list_all, insert, copy_within, AllByRecursion, HoldsAt}
 use Rattle.std.specs.List.Sorted.{IsStrictlySortedBy, IsNonDecreasingBy, IsBinarySearchResult}
 use Rattle.std.proofs.lemmas.Bool.{and_parts, and_from, cases_lt}
 use Rattle.std.proofs.lemmas.Bool.Decides.{nat_tests}
-use Rattle.std.proofs.lemmas.List.{get_or-map, length-map, map-append, take-map, drop-map, take-append-drop}
+use Rattle.std.proofs.lemmas.List.{get_or-map, length-map, map-append, take-map, drop-map, take-append-drop, append_assoc, length-append, length-drop, length-take-le, take_more, take-take, drop-take, take_at, set_at}
 use Rattle.std.proofs.lemmas.List.Edits.{length-insert}
 use Rattle.std.proofs.lemmas.List.Folds.{list_all-append}
 use Rattle.std.proofs.lemmas.List.Sums.{AllPass-from_list_all}
 use Rattle.std.proofs.lemmas.Cmp.{same_from_slice_cmp}
 use Rattle.std.proofs.lemmas.Map.Keys.{sorted_tail, Less-from_sorted}
-use Rattle.question.specs.declared.refusals.Refusal.{Refusal}
-use Rattle.question.specs.declared.refusals.Refusal.TheVariants.{TooWide}
 use Rattle.question.specs.Question.{Line, In}
 use Rattle.question.specs.Layout.{terms_out, padded, line_in, line_out, line_fits, ten_fit}
 use Rattle.question.proofs.Chunks.{line_few}
@@ -25,6 +22,8 @@ use Rattle.question.proofs.Writing.{length-terms_out}
 use Rattle.containment.specs.Order.{nums_less, Rising}
 use Rattle.reports.specs.Widest.{line_nums, line_less, insert_line, Sorted}
 use Rattle.reports.specs.Order.{written_cmp, line_cmp}
+use Rattle.reports.specs.Uses.{lines_kept}
+use Rattle.reports.specs.declared.uses.Uses.{Uses}
 use Rattle.reports.proofs.Ordering.{line_same}
 use Rattle.reports.proofs.Sorting.{insert_sorted}
 
@@ -183,6 +182,15 @@ pub record AreKept (xs : List (List ℕ)) : Type 0 where
   pub written : map line_out (map line_in xs) ≡ xs
   pub in_order : IsStrictlySortedBy line_cmp (map line_in xs)
 
+pub kept_count : (u : Uses) → length (take u.count u.lines) ≡ u.count
+kept_count u = length-take-le u.count u.lines (omega (arith, u.few, u.room))
+
+pub kept : (u : Uses) → AreKept (take u.count u.lines)
+kept u = record { few = omega (arith, kept_count u, u.few); fit = u.fit; written = u.written; in_order = u.in_order }
+
+pub kept_few : (u : Uses) → length (lines_kept u) ≤ 32
+kept_few u = omega (arith, length-map (take u.count u.lines) line_in, kept_count u, u.few)
+
 pub record Written (xs : List ℕ) : Type 0 where
   pub fits : line_fits 16 xs ≡ true
   pub written : line_out (line_in xs) ≡ xs
@@ -257,14 +265,20 @@ are_kept xs line i a w b room ten e =
         (ap (map line_out) (sym (take-map line_in i xs)) ∙ sym (take-map line_out i (map line_in xs)) ∙ ap (take i) a.written)
         (ap₂ {C = List (List ℕ)} (λ (y : List ℕ) (ys : List (List ℕ)). y ∷ ys) w.written (ap (map line_out) (sym (drop-map line_in i xs)) ∙ sym (drop-map line_out i (map line_in xs)) ∙ ap (drop i) a.written))
 
--- what an insert that may fail leaves, and what is said of it
-pub tried : {A E : Type 0} (P Q : Type 0) (r : Result A E) (s : Result A Refusal) (post : E → Refusal → Type 0) → MatchResult r (λ x. s ≡ Ok x) (λ e. IsErrAnd s (post e)) → ((e : E) (d : Refusal) → post e d → d ≡ TooWide) → OnOk r P → OnErr r Q
-    → MatchResult s (λ _. P) (λ e. (e ≡ TooWide) × Q)
-tried {A} P Q (Ok x) s post h f p q = subst (λ (t : Result A Refusal). MatchResult t (λ _. P) (λ e. (e ≡ TooWide) × Q)) (sym h) p
-tried P Q (Err e) (Ok x) post h f p q = absurd h
-tried P Q (Err e) (Err d) post h f p q = (f e d h, q)
-
-pub still_kept : {A E : Type 0} (r : Result A E) (xs zs : List (List ℕ)) (line : List ℕ) (i : ℕ) → AreKept xs → Written line → i ≤ length xs → (IsOk r → length xs < 32) → length line ≡ 10 → insert_line (line_in line) (map line_in xs) ≡ map line_in (insert xs i line)
-    → OnOk r (zs ≡ insert xs i line) → OnErr r (zs ≡ xs) → AreKept zs
-still_kept (Ok x) xs zs line i a w b room ten e p q = subst AreKept (sym p) (are_kept xs line i a w b (room refl) ten e)
-still_kept (Err d) xs zs line i a w b room ten e p q = subst AreKept (sym q) a
+-- a line written at a place, when those from there on have moved up
+pub moved_up : {X : Type 0} (xs ys : List X) (p c : ℕ) (x : X) → p ≤ c → c < length xs → ys ≡ copy_within xs p c (p + 1) → take (c + 1) (set ys p x) ≡ insert (take c xs) p x
+moved_up {X} xs ys p c x h k e =
+    let f : List X = take p xs in
+    let t : List X = take (c - p) (drop p xs) in
+    let r : List X = drop (p + 1 + (c - p)) xs in
+    let one : take (p + 1) xs ≡ f ++ get_or xs p x ∷ [] = take_more xs p x (omega arith) in
+    let opened : ys ≡ f ++ get_or xs p x ∷ (t ++ r)
+    = e ∙ append_assoc (take (p + 1) xs) t r ∙ ap (λ (zs : List X). zs ++ (t ++ r)) one ∙ append_assoc f (get_or xs p x ∷ []) (t ++ r) in
+    let m : length f ≡ p = length-take-le p xs (omega arith) in
+    let n : length t ≡ c - p = length-take-le (c - p) (drop p xs) (omega (arith, length-drop p xs)) in
+    let put : set ys p x ≡ (f ++ x ∷ t) ++ r
+    = ap (λ (zs : List X). set zs p x) opened ∙ set_at f (get_or xs p x) (t ++ r) x p m ∙ sym (append_assoc f (x ∷ t) r) in
+    let few : take p (take c xs) ≡ f = take-take p c xs h in
+    let d : c ≡ p + (c - p) = omega arith in
+    let more : drop p (take c xs) ≡ t = ap (λ (i : ℕ). drop p (take i xs)) d ∙ drop-take p (c - p) xs in
+    ap (take (c + 1)) put ∙ take_at (f ++ x ∷ t) r (c + 1) (length-append f (x ∷ t) ∙ omega (arith, m, n)) ∙ sym (ap₂ {C = List X} (λ (zs ws : List X). zs ++ x ∷ ws) few more)

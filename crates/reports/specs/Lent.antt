@@ -1,4 +1,4 @@
--- What the parts of lent reports are, and how a use puts the variables of its report. Assumes nothing: these are definitions.
+-- What the parts of lent reports are, and the lines that uses of them stand for. Assumes nothing: these are definitions.
 use Rattle.std.specs.Prelude.{List, map}
 use Rattle.question.specs.Question.{Line, Question}
 use Rattle.question.specs.Layout.{line_in, question_in}

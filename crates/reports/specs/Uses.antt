@@ -1,5 +1,5 @@
 -- How uses of reports are kept, up to 32. Assumes nothing: these are definitions.
-use Rattle.std.specs.Prelude.{◌≡◌, ◌<◌, List, [], ◌∷◌, map, length, Result, MatchResult}
+use Rattle.std.specs.Prelude.{◌≡◌, ◌<◌, List, [], ◌∷◌, map, length, take, Result, MatchResult}
 use Rattle.question.specs.declared.refusals.Refusal.{Refusal}
 use Rattle.question.specs.declared.refusals.Refusal.TheVariants.{TooWide}
 use Rattle.question.specs.Question.{Line}
@@ -9,7 +9,7 @@ use Rattle.reports.specs.declared.uses.Uses.{Uses}
 
 -- the lines that are kept
 abbrev pub lines_kept : Uses → List Line
-lines_kept u = map line_in u.lines.items
+lines_kept u = map line_in (take u.count u.lines)
 
 -- the lines are kept, or they are more than 32
 abbrev pub Keeps : Result Unit Refusal → Uses → List Line → Type 0

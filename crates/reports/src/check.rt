@@ -95,14 +95,11 @@ fn lent_parts(reports: &[u64]) -> Option<&[[u64; 50]]>
     Some(parts)
 }
 
-// The reports, or the first that is at fault.
-fn without_fault<'a>(
-    question: &Question<'_>,
-    parts: &'a [[u64; 50]],
-) -> Result<Reports<'a>, Refusal>
+// That none of the reports is at fault, or the first that is.
+fn without_fault(question: &Question<'_>, parts: &[[u64; 50]]) -> Result<(), Refusal>
     requires { length parts.now ≤ 8 }
     ensures { MatchResult result
-        (λ rs. (parts_fault (question_of question.now).lines parts.now (length parts.now) 0 ≡ None) × (rs.left.now ≡ parts.now))
+        (λ _. parts_fault (question_of question.now).lines parts.now (length parts.now) 0 ≡ None)
         (λ e. option_map NoReport (parts_fault (question_of question.now).lines parts.now (length parts.now) 0) ≡ Some e) }
 {
     for (i, part) in parts.iter().enumerate() {
@@ -111,7 +108,26 @@ fn without_fault<'a>(
             return Err(Refusal::NoReport(i as u64));
         }
     }
-    Ok(Reports::of_parts(parts))
+    Ok(())
+}
+
+// How many reports are lent beside a question, or how they are turned away.
+pub fn check_reports(question: &[u64], reports: &[u64]) -> Result<usize, Refusal>
+    ensures told { MatchResult result
+        (λ n. (reports_refusal question.now reports.now ≡ None) × (n ≡ length (reports_in reports.now)))
+        (λ e. reports_refusal question.now reports.now ≡ Some e) }
+    ensures meant { MatchResult result
+        (λ _. Asked (question_in question.now) (reports_in reports.now))
+        (λ _. (IsAsked question.now reports.now → ⊥)) }
+    ensures kept { OnOk result (AreReports reports.now) }
+{
+    if question.len() < 50 {
+        return Err(Refusal::CutShort(question.len() as u64));
+    }
+    let parts = lent_parts(reports).ok_or(Refusal::CutShort(reports.len() as u64))?;
+    let question = Question::checked(question)?;
+    without_fault(&question, parts)?;
+    Ok(parts.len())
 }
 
 impl<'a> Reports<'a> {
@@ -127,26 +143,10 @@ impl<'a> Reports<'a> {
             (λ _. Asked (question_in question.now) (reports_in reports.now))
             (λ _. (IsAsked question.now reports.now → ⊥)) }
     {
-        if question.len() < 50 {
-            return Err(Refusal::CutShort(question.len() as u64));
-        }
-        let parts = lent_parts(reports).ok_or(Refusal::CutShort(reports.len() as u64))?;
-        let question = Question::checked(question)?;
-        let reports = without_fault(&question, parts)?;
-        Ok((question, reports))
+        let count = check_reports(question, reports)?;
+        Ok((
+            Question::of_checked(question),
+            Reports::first_of(reports, count),
+        ))
     }
-}
-
-// How many reports are lent beside a question, or how they are turned away.
-pub fn check_reports(question: &[u64], reports: &[u64]) -> Result<usize, Refusal>
-    ensures told { MatchResult result
-        (λ n. (reports_refusal question.now reports.now ≡ None) × (n ≡ length (reports_in reports.now)))
-        (λ e. reports_refusal question.now reports.now ≡ Some e) }
-    ensures meant { MatchResult result
-        (λ _. Asked (question_in question.now) (reports_in reports.now))
-        (λ _. (IsAsked question.now reports.now → ⊥)) }
-    ensures kept { OnOk result (AreReports reports.now) }
-{
-    let (_, reports) = Reports::checked(question, reports)?;
-    Ok(reports.count_left())
 }

@@ -7,6 +7,7 @@ mod expand;
 mod expanded;
 mod laws;
 mod made;
+mod numbers;
 mod order;
 mod put;
 mod uses;
@@ -21,5 +22,6 @@ pub use laws::{
     same_reports_for_the_same, still_right_with_more, the_widest_decides, too_wide_is_exact,
     widest_is_made,
 };
+pub use numbers::report_at;
 pub use uses::Uses;
 pub use wide::widest;

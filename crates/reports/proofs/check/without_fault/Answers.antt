@@ -23,4 +23,4 @@ loop-i-preserved c =
     )
 
 pub returns : goal.returns
-returns c = (sym c.loop-i.invariant.1 ∙ part_end _ c.args.parts.now c.loop-i.i (omega arith), c.of_parts.ensures)
+returns c = sym c.loop-i.invariant.1 ∙ part_end _ c.args.parts.now c.loop-i.i (omega arith)

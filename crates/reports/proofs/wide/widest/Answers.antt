@@ -2,7 +2,7 @@ use Rattle.std.proofs.Common.{rules, ◌≡◌, ◌<◌, ◌≤◌, List, map, l
 use Rattle.std.proofs.lemmas.Result.{err_from_is_err_and}
 use Rattle.std.proofs.lemmas.List.{length-map}
 use Rattle.question.specs.Question.{Line}
-use Rattle.question.specs.Layout.{line_in, question_in}
+use Rattle.question.specs.Layout.{question_in}
 use Rattle.question.specs.Lent.{question_of}
 use Rattle.containment.specs.Search.{nothing}
 use Rattle.reports.specs.Widest.{use_of, all_readings, widest}
@@ -11,6 +11,7 @@ use Rattle.reports.specs.Lent.{reports_of}
 use Rattle.reports.proofs.Sorting.{too_wide, not_too_wide}
 use Rattle.reports.proofs.EachReport.{uses-none, uses-more, uses-over, uses_end}
 use Rattle.reports.proofs.Parts.{parts-sound}
+use Rattle.reports.proofs.Kept.{kept_few}
 use Rattle.reports.proofs.wide.widest.Goals as goal
 
 pub loop-t-init : goal.loop-t-init
@@ -48,5 +49,5 @@ returns c =
     let q = question_of c.args.question.now in
     let u = c.loop-t.uses in
     let e : lines_kept u ≡ (widest rs q).lines = sym (uses_end (reports_of c.loop-t.t-iterator.iter) q (lines_kept u) _ c.in-None.ensures.steps.0.0) ∙ c.loop-t.invariant.3 in
-    let few : length (widest rs q).lines ≤ 32 = omega (arith, ap length e, length-map u.lines.items line_in, u.few) in
+    let few : length (widest rs q).lines ≤ 32 = omega (arith, ap length e, kept_few u) in
     record { told = e; meant = not_too_wide rs q (parts-sound c.args.reports.now.left.now c.args.reports.now.checked) few }

@@ -1,13 +1,13 @@
-use Rattle.std.proofs.Common.{◌≡◌, ℕ, ◌<◌, ◌≤◌, List, length, Some, Err, sym, refl, ap, ◌∙◌, subst, arith}
-use Rattle.std.proofs.lemmas.List.{length-map}
+use Rattle.std.proofs.Common.{◌≡◌, ℕ, ◌<◌, ◌≤◌, List, length, take, Some, Err, sym, refl, ap, ◌∙◌, subst, arith}
 use Rattle.std.proofs.lemmas.Result.{err_from_is_err_and}
 use Rattle.question.specs.declared.refusals.Refusal.TheVariants.{NoRoomForQuestion}
 use Rattle.question.specs.Refusals.{number}
 use Rattle.question.specs.Question.{Line, In}
-use Rattle.question.specs.Layout.{line_in, question_in}
+use Rattle.question.specs.Layout.{question_in}
 use Rattle.question.specs.Reports.{reports_in}
 use Rattle.reports.specs.Uses.{lines_kept}
 use Rattle.reports.specs.Widest.{widest, IsTooWide}
+use Rattle.reports.proofs.Kept.{kept_few}
 use Rattle.rewriting.proofs.Telling.{refused_first, refused_room, refused_wide, refused_not, not_wide, turned-away, answered, tens-within}
 use Rattle.rewriting.proofs.fewest.found.Goals as goal
 
@@ -44,9 +44,9 @@ returns c =
     let told = c.in_ok-question.ensures.told in
     let uses = c.in_ok-uses.uses in
     let is : lines_kept uses ≡ (widest (reports_in c.args.reports.now) (question_in c.args.question.now)).lines = rw (← told.1, ← told.2) c.in_ok-uses.ensures.told in
-    let few : length (widest (reports_in c.args.reports.now) (question_in c.args.question.now)).lines ≤ 32 = omega (arith, ap length is, length-map uses.lines.items line_in, uses.few) in
+    let few : length (widest (reports_in c.args.reports.now) (question_in c.args.question.now)).lines ≤ 32 = omega (arith, ap length is, kept_few uses) in
     let t = answered c.args.question.now c.args.reports.now c.args.out.now c.write_fewest.new.out c.write_fewest.result
     (refused_not c.args.question.now c.args.reports.now c.args.out.now told.0 c.if-out-lt50.false few) c.in_ok-question.ensures.meant
-    (λ l i. tens-within uses.lines.items uses.fit l (subst (λ (ls : List Line). In l ls) (sym is) i))
+    (λ l i. tens-within (take uses.count uses.lines) uses.fit l (subst (λ (ls : List Line). In l ls) (sym is) i))
     (rw (← told.1, ← told.2) c.write_fewest.ensures.told) (rw (← told.1, ← told.2) c.write_fewest.ensures.written) in
     record { told = t.0; written = t.1; meant = t.2 }

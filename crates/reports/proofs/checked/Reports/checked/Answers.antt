@@ -1,71 +1,21 @@
-use Rattle.std.proofs.Common.{◌≡◌, map, length, get_or, Some, None, Err, sym, ap, ◌∙◌, arith}
-use Rattle.std.specs.Option.{option_map}
-use Rattle.std.proofs.lemmas.Bool.Decides.{nat_tests}
-use Rattle.std.proofs.lemmas.Result.{err_from_is_err_and}
-use Rattle.question.specs.declared.refusals.Refusal.TheVariants.{CutShort, NoReport}
-use Rattle.question.specs.Check.{question_refusal}
-use Rattle.question.specs.Layout.{question_in}
-use Rattle.question.specs.Lent.{question_of}
-use Rattle.reports.specs.Check.{report_fault, reports_short, reports_refusal}
-use Rattle.reports.proofs.Asking.{asked}
-use Rattle.reports.proofs.Admitted.{refused}
-use Rattle.reports.proofs.Parts.{parts-few, parts-reports, fault-lent}
+use Rattle.std.proofs.Common.{◌≡◌, ℕ, get_or, drop, ap, ◌∙◌, arith}
+use Rattle.question.specs.Reports.{questions_in, reports_in}
+use Rattle.reports.specs.Check.{report_part}
+use Rattle.reports.proofs.Lent.{length-reports_in, passed}
 use Rattle.reports.proofs.checked.Reports.checked.Goals as goal
 
-pub returns-then-question-lt50 : goal.returns-then-question-lt50
-unfolding reports_refusal
-returns-then-question-lt50 c =
-    let told : reports_refusal c.args.question.now c.args.reports.now ≡ Some (CutShort (length c.args.question.now)) = grind (arith, nat_tests) in
-    record { told = told; meant = refused c.args.question.now c.args.reports.now _ told }
+pub of_checked-requires : goal.of_checked-requires
+of_checked-requires c = (passed c.args.question.now c.args.reports.now c.in_ok-count.ensures.told.0).checked
 
-pub returns-in_err-parts : goal.returns-in_err-parts
-unfolding reports_refusal
-returns-in_err-parts c =
-    let p = err_from_is_err_and c.from_residual.result c.from_residual.ensures.1 in
-    let e = c.in_err-parts.field-0.0 in
-    let s : reports_short c.args.reports.now ≡ Some (CutShort (length c.args.reports.now)) = rw c.in_err-parts.ensures.ok_part at c.lent_parts.ensures in
-    let t : Err e ≡ Err (CutShort (length c.args.reports.now)) = rw c.in_err-parts.ensures.ok_part at c.in_err-parts.ensures.value in
-    let d : e ≡ CutShort (length c.args.reports.now) = cc in
-    let told : reports_refusal c.args.question.now c.args.reports.now ≡ Some e = rw d (grind (arith, nat_tests)) in
-    rw (p.1, p.2) (record { told = told; meant = refused c.args.question.now c.args.reports.now e told })
+pub first_of-requires : goal.first_of-requires
+unfolding report_part
+first_of-requires c =
+    let a = c.in_ok-count.ensures.kept in
+    let n : c.in_ok-count.count ≡ get_or c.args.reports.now 0 0 = c.in_ok-count.ensures.told.1 ∙ length-reports_in c.args.reports.now in
+    record { each = λ i h. a.each i (omega (arith, n)); lent = (omega (arith, n, a.few), omega (arith, n, a.long)) }
 
-pub returns-in_err-question : goal.returns-in_err-question
-unfolding reports_refusal
-returns-in_err-question c =
-    let p = err_from_is_err_and c.from_residual-in_err-question.result c.from_residual-in_err-question.ensures.1 in
-    let e = c.in_err-question.field-0.0 in
-    let s : reports_short c.args.reports.now ≡ None = (rw c.in_ok-parts.ensures.ok_part at c.lent_parts.ensures).0 in
-    let told : reports_refusal c.args.question.now c.args.reports.now ≡ Some e = grind (arith, nat_tests) in
-    rw (p.1, p.2) (record { told = told; meant = refused c.args.question.now c.args.reports.now e told })
-
-pub without_fault-requires : goal.without_fault-requires
-without_fault-requires c =
-    let s = rw c.in_ok-parts.ensures.ok_part at c.lent_parts.ensures in
-    parts-few c.args.reports.now c.in_ok-parts.parts.now s.0 s.1
-
-pub returns-in_err-reports : goal.returns-in_err-reports
-unfolding reports_refusal
-returns-in_err-reports c =
-    let p = err_from_is_err_and c.from_residual-in_err-reports.result c.from_residual-in_err-reports.ensures.1 in
-    let e = c.in_err-reports.field-0.0 in
-    let s = rw c.in_ok-parts.ensures.ok_part at c.lent_parts.ensures in
-    let none : reports_short c.args.reports.now ≡ None = s.0 in
-    let q : question_refusal c.args.question.now ≡ None = c.in_ok-question.ensures.told.0 in
-    let f : option_map NoReport (report_fault c.args.question.now c.args.reports.now (get_or c.args.reports.now 0 0) 0) ≡ Some e
-    = ap (option_map NoReport) (sym (fault-lent c.args.question.now c.args.reports.now c.in_ok-parts.parts.now (question_of c.in_ok-question.question) s.1 c.in_ok-question.ensures.told.1)) ∙ c.in_err-reports.ensures in
-    let told : reports_refusal c.args.question.now c.args.reports.now ≡ Some e = grind (arith, nat_tests) in
-    rw (p.1, p.2) (record { told = told; meant = refused c.args.question.now c.args.reports.now e told })
-
-pub returns : goal.returns
-unfolding reports_refusal
-returns c =
-    let s = rw c.in_ok-parts.ensures.ok_part at c.lent_parts.ensures in
-    let none : reports_short c.args.reports.now ≡ None = s.0 in
-    let q : question_refusal c.args.question.now ≡ None = c.in_ok-question.ensures.told.0 in
-    let f : report_fault c.args.question.now c.args.reports.now (get_or c.args.reports.now 0 0) 0 ≡ None
-    = sym (fault-lent c.args.question.now c.args.reports.now c.in_ok-parts.parts.now (question_of c.in_ok-question.question) s.1 c.in_ok-question.ensures.told.1) ∙ c.in_ok-reports.ensures.0 in
-    let told : reports_refusal c.args.question.now c.args.reports.now ≡ None = grind (arith, nat_tests) in
-    record {
-      told = (told, c.in_ok-question.ensures.told.1, ap (map question_in) (c.in_ok-reports.ensures.1 ∙ s.1) ∙ parts-reports c.args.reports.now);
-      meant = asked c.args.question.now c.args.reports.now told;
-    }
+pub returns-clause-told : goal.returns-clause-told
+unfolding reports_in
+returns-clause-told c =
+    let n : c.in_ok-count.count ≡ get_or c.args.reports.now 0 0 = c.in_ok-count.ensures.told.1 ∙ length-reports_in c.args.reports.now in
+    (c.in_ok-count.ensures.told.0, c.of_checked.ensures, c.first_of.ensures ∙ ap (λ (k : ℕ). questions_in k (drop 1 c.args.reports.now)) n)

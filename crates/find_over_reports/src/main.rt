@@ -4,7 +4,7 @@
 #[cfg(test)]
 mod tests;
 
-use rewriting::found_line;
+use rewriting::FoundLine;
 use std::io;
 use std::io::Read;
 use wire::read_request;
@@ -14,7 +14,7 @@ fn main(rt: HostRuntime) -> io::Result<()> {
     rt.stdin().read_to_end(&mut bytes)?;
     match read_request(&bytes) {
         Ok(request) => {
-            let line = found_line(rt.alloc(), &request.question, &request.reports)?;
+            let line = FoundLine::of(&request.question, &request.reports);
             println!(rt; "{line}")
         }
         Err(refusal) => println!(rt; "{refusal}"),

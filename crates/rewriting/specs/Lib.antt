@@ -3,3 +3,4 @@ pub mod Laws
 pub mod Examples
 pub mod Answer
 pub mod Texts
+pub mod Printed

@@ -12,5 +12,5 @@ pub use laws::{
     more_reports_never_need_more, one_reading_decides, the_widest_tells_if_found,
     worked_fourth_holds, worked_table_holds,
 };
-pub use line::found_line;
+pub use line::{FoundLine, found_line};
 pub use reply::Reply;

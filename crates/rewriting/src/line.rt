@@ -1,6 +1,8 @@
 // The line that is printed for a request: by 2: R0 x0 x2, R1 x0 x3.
-ghost use Rattle.std.specs.Prelude.{◌≡◌, IfOk, Some, string_bytes};
+ghost use Rattle.std.specs.Prelude.{◌≡◌, ℕ, IfOk, Some, None, string_bytes};
+ghost use Rattle.question.specs.Check.{question_refusal};
 ghost use Rattle.question.specs.Lent.{line_of, question_of};
+ghost use Rattle.rewriting.specs.declared.reply.Reply.TheVariants.{By};
 ghost use Rattle.rewriting.specs.Texts.{use_text, found_text};
 ghost use Rattle.rewriting.specs.Answer.{printed};
 
@@ -50,17 +52,48 @@ impl fmt::Display for OverReports<'_> {
     }
 }
 
+// The line for a request, without its end: what is answered, and the question over reports where one is found.
+// It is written without memory of its own.
+#[derive(Clone, Copy)]
+pub struct FoundLine {
+    reply: Reply,
+    found: [u64; 50],
+    ghost stands: { (n : ℕ) → reply ≡ By n → question_refusal found ≡ None },
+}
+
+impl FoundLine {
+    ghost use Rattle.rewriting.specs.Printed.{line_text};
+
+    pub fn of(question: &[u64], reports: &[u64]) -> FoundLine
+        ensures { line_text result ≡ printed question.now reports.now }
+    {
+        let mut found = [0; 50];
+        let reply = find(question, reports, &mut found);
+        FoundLine { reply, found }
+    }
+}
+
+impl fmt::Display for FoundLine {
+    ghost use Rattle.rewriting.specs.Printed.{line_text};
+
+    ghost output = { λ l. Some (line_text l) };
+
+    fn fmt<W: fmt::Write>(&self, f: &mut fmt::Formatter<W>) -> fmt::Result {
+        match self.reply {
+            Reply::By(_) => {
+                let over_reports = OverReports(Question::of_checked(&self.found));
+                write!(f, "{over_reports}")
+            }
+            Reply::Impossible => write!(f, "none"),
+            Reply::Refused(refusal) => write!(f, "{refusal}"),
+        }
+    }
+}
+
 // The line that is printed for a request, without its end; an error where there is no memory for it.
 pub fn found_line(heap: Global, question: &[u64], reports: &[u64]) -> Result<String, AllocError>
     ensures { IfOk result (λ text. string_bytes text ≡ printed question.now reports.now) }
 {
-    let mut found = [0; 50];
-    match find(question, reports, &mut found) {
-        Reply::By(_) => {
-            let over_reports = OverReports(Question::of_checked(&found));
-            format!(in heap; "{over_reports}")
-        }
-        Reply::Impossible => format!(in heap; "none"),
-        Reply::Refused(refusal) => format!(in heap; "{refusal}"),
-    }
+    let line = FoundLine::of(question, reports);
+    format!(in heap; "{line}")
 }

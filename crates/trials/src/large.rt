@@ -151,14 +151,13 @@ fn draw_row(heap: Global, dice: &mut Dice, lines: &[Line]) -> Result<Vec<Term>, 
     Ok(row)
 }
 
-// All values that also put the line as one of the rows.
-fn with_line(
-    heap: Global,
+// Puts the values that also put the line as one of the rows behind the others.
+fn push_with(
+    more: &mut Vec<Values>,
     values: &[Values],
     line: &Line,
     rows: &[Line],
-) -> Result<Vec<Values>, AllocError> {
-    let mut more = Vec::new(heap);
+) -> Result<(), AllocError> {
     for value in values {
         for row in rows {
             if line.table == row.table
@@ -168,13 +167,32 @@ fn with_line(
             }
         }
     }
+    Ok(())
+}
+
+// All values that also put the line as one of the rows.
+fn with_line(
+    heap: Global,
+    values: &[Values],
+    line: &Line,
+    tables: &[Table],
+) -> Result<Vec<Values>, AllocError> {
+    let mut more = Vec::new(heap);
+    // The rows of one table at a time: those of all take three times the memory.
+    for table in tables.chunks(1) {
+        push_with(&mut more, values, line, &rows_of(heap, table)?)?;
+    }
     Ok(more)
 }
 
-fn second_way(heap: Global, question: &Plain, rows: &[Line]) -> Result<Vec<Vec<u64>>, AllocError> {
+fn second_way(
+    heap: Global,
+    question: &Plain,
+    tables: &[Table],
+) -> Result<Vec<Vec<u64>>, AllocError> {
     let mut values = vec![in heap; Values::new()]?;
     for line in &question.lines {
-        values = with_line(heap, &values, line, rows)?;
+        values = with_line(heap, &values, line, tables)?;
     }
     let mut found = Vec::new(heap);
     for value in &values {
@@ -192,8 +210,7 @@ impl Tally {
         let kind = Kind::draw(heap, dice)?;
         let tables = kind.draw_tables(heap, dice)?;
         let question = kind.draw_question(heap, dice)?;
-        let rows = rows_of(heap, &tables)?;
-        let found = second_way(heap, &question, &rows)?;
+        let found = second_way(heap, &question, &tables)?;
         let question = question.lent(0);
         let tables = lent_tables(heap, &tables)?;
         let call = Call {

@@ -2,28 +2,53 @@
 use super::plain::{Line, Plain, Term};
 use std::alloc::{AllocError, Global};
 
+// What a variable is put as. No `Option` of a term: it takes half as much memory again, and there are many maps.
+#[derive(Clone, Copy)]
+enum Put {
+    Nothing,
+    Number(u64),
+    Variable(u64),
+}
+
+impl From<Term> for Put {
+    fn from(term: Term) -> Self {
+        match term {
+            Term::Number(n) => Put::Number(n),
+            Term::Variable(x) => Put::Variable(x),
+        }
+    }
+}
+
 // What each variable below N is put as, if it is.
 #[derive(Clone, Copy)]
-pub struct Map<const N: usize>([Option<Term>; N]);
+pub struct Map<const N: usize>([Put; N]);
 
 impl<const N: usize> Map<N> {
     // The map that puts nothing yet.
     pub fn new() -> Self {
-        Map([None; N])
+        Map([Put::Nothing; N])
     }
 
     fn get(&self, variable: u64) -> Option<Term> {
-        self.0.get(variable as usize).copied().flatten()
+        match *self.0.get(variable as usize)? {
+            Put::Nothing => None,
+            Put::Number(n) => Some(Term::Number(n)),
+            Put::Variable(x) => Some(Term::Variable(x)),
+        }
     }
 
     pub fn put(&mut self, variable: u64, term: Term) {
         if let Some(place) = self.0.get_mut(variable as usize) {
-            *place = Some(term);
+            *place = Put::from(term);
         }
     }
 
     // The map that goes on from this one so that the terms become the others, if there is one.
     pub fn with(&self, terms: &[Term], others: &[Term]) -> Option<Self> {
+        // Most others fail at a term that is put already: no map is copied for them.
+        if !self.may_make(terms, others) {
+            return None;
+        }
         let mut map = *self;
         for (term, other) in terms.iter().zip(others) {
             if let Term::Variable(x) = *term {
@@ -34,6 +59,22 @@ impl<const N: usize> Map<N> {
             Some(map)
         } else {
             None
+        }
+    }
+
+    // Whether the terms that it puts already, and numbers, become the others.
+    fn may_make(&self, terms: &[Term], others: &[Term]) -> bool {
+        terms.len() == others.len()
+            && terms
+                .iter()
+                .zip(others)
+                .all(|(term, other)| self.may_become(*term, *other))
+    }
+
+    fn may_become(&self, term: Term, other: Term) -> bool {
+        match term {
+            Term::Number(_) => term == other,
+            Term::Variable(x) => self.get(x).is_none_or(|put| put == other),
         }
     }
 

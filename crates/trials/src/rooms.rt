@@ -8,6 +8,15 @@ use std::fmt;
 // How many rows stand, or why they do not.
 pub type Told = Result<u64, Refusal>;
 
+// The number that is told, 0 where all rows stand, and the count or the place with it.
+// Numbers, as they are expected: what a refusal's number is stands here for itself, and not by the library's word.
+fn as_numbers(told: Told) -> [u64; 2] {
+    match told {
+        Ok(count) => [0, count],
+        Err(refusal) => [refusal.number(), refusal.place()],
+    }
+}
+
 // The numbers of a question and of tables, as they are lent.
 #[derive(Clone, Copy)]
 pub struct Call<'a> {
@@ -24,38 +33,38 @@ impl Call<'_> {
     fn leaves(
         &self,
         heap: Global,
-        told: Told,
+        expected: [u64; 2],
         mut numbers: Vec<u64>,
         room: usize,
     ) -> Result<bool, AllocError> {
         let mut out = vec![in heap; 7; room]?;
         let said = self.told(heap, &mut out);
         numbers.resize(room, 7)?;
-        Ok(said == told && out == numbers)
+        Ok(as_numbers(said) == expected && out == numbers)
     }
 
     // Whether the call tells the rows and leaves as many as there is room for.
     pub fn gives(&self, heap: Global, rows: &[Vec<u64>], room: usize) -> Result<bool, AllocError> {
         let mut numbers = Vec::new(heap);
-        let mut told = Ok(rows.len() as u64);
+        let mut expected = [0, rows.len() as u64];
         for (i, row) in rows.iter().enumerate() {
             if numbers.len().saturating_add(row.len()) > room {
-                told = Err(Refusal::NoRoomForRow(i as u64));
+                expected = [6, i as u64];
                 break;
             }
             numbers.extend_from_slice(row)?;
         }
-        self.leaves(heap, told, numbers, room)
+        self.leaves(heap, expected, numbers, room)
     }
 
     // Whether the call is turned away as expected, and leaves the room as it was.
     pub fn turns_away(
         &self,
         heap: Global,
-        refusal: Refusal,
+        expected: [u64; 2],
         room: usize,
     ) -> Result<bool, AllocError> {
-        self.leaves(heap, Err(refusal), Vec::new(heap), room)
+        self.leaves(heap, expected, Vec::new(heap), room)
     }
 }
 

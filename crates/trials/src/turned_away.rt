@@ -6,7 +6,6 @@ use super::lent::{Table, lent_tables};
 use super::plain::{Line, Plain};
 use super::questions::Asked;
 use super::rooms::Call;
-use question::Refusal;
 use std::alloc::{AllocError, Global};
 use std::io;
 
@@ -272,13 +271,13 @@ impl Lent {
         })
     }
 
-    // The refusal for a fault.
-    fn refusal(&self, fault: Fault) -> Refusal {
+    // The refusal that is expected for a fault, by its number, and its place.
+    fn expected(&self, fault: Fault) -> [u64; 2] {
         match fault {
-            Fault::ShortQuestion => Refusal::CutShort(self.question.len() as u64),
-            Fault::ShortTables => Refusal::CutShort(self.tables.len() as u64),
-            Fault::NoQuestion => Refusal::NoQuestion(self.line),
-            Fault::LargeTable => Refusal::TableTooLarge(self.table),
+            Fault::ShortQuestion => [1, self.question.len() as u64],
+            Fault::ShortTables => [1, self.tables.len() as u64],
+            Fault::NoQuestion => [2, self.line],
+            Fault::LargeTable => [7, self.table],
         }
     }
 }
@@ -315,7 +314,7 @@ impl Tally {
             question: &lent.question,
             tables: &lent.tables,
         };
-        if !call.turns_away(heap, lent.refusal(*first), room)? {
+        if !call.turns_away(heap, lent.expected(*first), room)? {
             self.differ.add(1);
             println!(rt; "differs: turned away{call}")?;
         }

@@ -7,18 +7,19 @@ ghost use Rattle.minimization.specs.Choices.{choices, first_right, first_after, 
 ghost use Rattle.minimization.specs.Meant.{meant};
 
 use super::chosen::Chosen;
-use super::test::Test;
+use super::test::{PartialTest, Test};
 use question::Lines;
 
 // Lines to choose from, and the test that a choice of them has to pass. It is lent, so that no test has to be `Copy`.
 #[derive_where(Clone, Copy)]
-pub struct Candidates<'a, T: Test> {
+pub struct LentCandidates<'a, T: PartialTest> {
     pub test: &'a T,
     pub lines: Lines<'a, 16>,
 }
 
 // Choices of two, three and four lines are tried by nested loops, which are left from inside by a label.
-impl<'a, T: Test> Candidates<'a, T> {
+// What the test asks for is said by each function, and not by the struct: it can be made before that holds.
+impl<'a, T: PartialTest> LentCandidates<'a, T> {
     // The chosen lines and the first of those behind them that they pass with.
     fn first_with(&self, chosen: &Chosen, behind: &Lines<'_, 16>) -> Option<Chosen>
         requires asked { T.ready self.now.test.now }
@@ -146,5 +147,59 @@ impl<'a, T: Test> Candidates<'a, T> {
             }
         }
         None
+    }
+}
+
+// A test that is right of all lines, as one that need be right of some only.
+#[derive(Clone, Copy)]
+struct OfAll<T: Test> {
+    test: T,
+}
+
+impl<T: Test> PartialTest for OfAll<T> {
+    ghost decides = { λ t. T.decides t.test };
+
+    ghost ready = { λ _. Unit {0} };
+
+    ghost takes = { λ _ _. Unit {0} };
+
+    fn passes(&self, lines: &Lines<'_, 16>) -> bool {
+        self.test.passes(lines)
+    }
+}
+
+// Lines to choose from, and the test that a choice of them has to pass, by value.
+#[derive(Clone, Copy)]
+pub struct Candidates<'a, T: Test> {
+    pub test: T,
+    pub lines: Lines<'a, 16>,
+}
+
+// Both functions answer by `LentCandidates`, which the programs of this repository run.
+impl<'a, T: Test> Candidates<'a, T> {
+    // The first choice of n lines that passes.
+    pub fn first_choice(&self, n: usize) -> Option<Chosen>
+        requires { (1 ≤ n) × (n ≤ 4) }
+        ensures { option_map meant result ≡ first_right (T.decides self.now.test) (choices n (lines_of self.now.lines)) }
+    {
+        let test = OfAll { test: self.test };
+        let lent = LentCandidates {
+            test: &test,
+            lines: self.lines,
+        };
+        lent.first_choice(n)
+    }
+
+    // The first choice that passes: the fewest lines, at most `most`, and of those the first by places.
+    pub fn first_of_sizes(&self, most: usize) -> Option<Chosen>
+        requires { most ≤ 4 }
+        ensures { option_map meant result ≡ by_size (T.decides self.now.test) (lines_of self.now.lines) most 1 }
+    {
+        let test = OfAll { test: self.test };
+        let lent = LentCandidates {
+            test: &test,
+            lines: self.lines,
+        };
+        lent.first_of_sizes(most)
     }
 }

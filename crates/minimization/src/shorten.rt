@@ -5,8 +5,8 @@ ghost use Rattle.question.specs.Lent.{question_of};
 ghost use Rattle.minimization.specs.Least.{says_same, least};
 ghost use Rattle.minimization.specs.Answer.{least_refusal, least_says, least_leaves, Numbered, MeantLeast};
 
-use super::choose::Candidates;
-use super::test::Test;
+use super::choose::LentCandidates;
+use super::test::PartialTest;
 use containment::reads_into;
 use question::{Lines, Question, Refusal};
 
@@ -16,7 +16,7 @@ struct SaysSame<'a> {
     question: Question<'a>,
 }
 
-impl<'a> Test for SaysSame<'a> {
+impl<'a> PartialTest for SaysSame<'a> {
     ghost decides = { λ s. says_same (question_of s.question) };
 
     ghost ready = { λ _. Unit {0} };
@@ -39,7 +39,7 @@ fn write_least(question: &Question<'_>, out: &mut [u64]) -> u64
     let test = SaysSame {
         question: *question,
     };
-    let candidates = Candidates { test: &test, lines };
+    let candidates = LentCandidates { test: &test, lines };
     let Some(chosen) = candidates.first_of_sizes(lines.count_left()) else {
         unreachable!()
     };

@@ -5,7 +5,18 @@ ghost use Rattle.question.specs.Lent.{lines_of};
 
 use question::Lines;
 
-pub trait Test {
+// A test that is right of all lines.
+pub trait Test: Copy {
+    // What it decides, of lines as they are meant.
+    ghost decides: { Self → List Line → Bool };
+
+    fn passes(&self, lines: &Lines<'_, 16>) -> bool
+        requires { length (lines_of lines.now) ≤ 4 }
+        ensures { result ≡ decides self.now (lines_of lines.now) };
+}
+
+// A test that may ask for something first, and may be right of some lines only.
+pub trait PartialTest {
     // What it decides, of lines as they are meant.
     ghost decides: { Self → List Line → Bool };
     // What has to hold of it to be asked.

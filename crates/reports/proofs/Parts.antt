@@ -9,7 +9,7 @@ use Rattle.question.specs.declared.refusals.Refusal.TheVariants.{CutShort}
 use Rattle.question.specs.Question.{Line, Question}
 use Rattle.question.specs.Layout.{question_in}
 use Rattle.question.specs.Check.{question_refusal}
-use Rattle.question.specs.Reports.{questions_in}
+use Rattle.question.specs.Reports.{questions_in, reports_in}
 use Rattle.question.proofs.Accepted.{allowed}
 use Rattle.question.proofs.Chunks.{all-chunks, length-chunks}
 use Rattle.reports.specs.Reports.{all_sound}
@@ -67,6 +67,10 @@ questions-chunks : (n : ℕ) (xs : List ℕ) → map question_in (first_chunks 5
 unfolding questions_in
 questions-chunks zero xs = refl
 questions-chunks (suc n) xs = ap (λ (qs : List Question). question_in (take 50 xs) ∷ qs) (questions-chunks n (drop 50 xs))
+
+pub parts-reports : (reports : List ℕ) → map question_in (report_parts reports) ≡ reports_in reports
+unfolding report_parts reports_in
+parts-reports reports = questions-chunks (get_or reports 0 0) (drop 1 reports)
 
 -- the least part at fault, turn by turn
 fault-step : (ls : List Line) (parts : List (List ℕ)) (i : ℕ) → i < length parts → parts_fault ls parts (length parts - i) i ≡ cond (part_good ls parts i) (parts_fault ls parts (length parts - (i + 1)) (i + 1)) (Some i)

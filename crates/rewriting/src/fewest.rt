@@ -12,7 +12,7 @@ ghost use Rattle.rewriting.specs.Answer.{reply_of, left_by, find_refusal, find_s
 
 use super::reply::Reply;
 use containment::reads_into;
-use minimization::{Candidates, Test};
+use minimization::{LentCandidates, PartialTest};
 use question::{Lines, Question, Refusal};
 use reports::{Reports, Uses, expand_uses, widest};
 
@@ -23,7 +23,7 @@ struct WillDo<'q, 'r> {
     reports: Reports<'r>,
 }
 
-impl<'q, 'r> Test for WillDo<'q, 'r> {
+impl<'q, 'r> PartialTest for WillDo<'q, 'r> {
     ghost decides = { λ s. will_do (reports_of s.reports) 16 16 (question_of s.question) };
 
     ghost ready = { λ _. Unit {0} };
@@ -46,7 +46,7 @@ fn write_fewest(test: &WillDo<'_, '_>, uses: &Uses, out: &mut [u64]) -> Option<u
     ensures written { out.new ≡ left_by (find (reports_of test.now.reports) 16 16 (question_of test.now.question)) out.old }
 {
     let question = test.question;
-    let candidates = Candidates {
+    let candidates = LentCandidates {
         test,
         lines: uses.lines(),
     };

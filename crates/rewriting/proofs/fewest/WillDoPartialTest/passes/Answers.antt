@@ -4,7 +4,7 @@ use Rattle.question.specs.Lent.{question_of}
 use Rattle.containment.specs.Search.{can_read}
 use Rattle.reports.specs.Expand.{expand}
 use Rattle.rewriting.specs.Found.{over_lines, will_do}
-use Rattle.rewriting.proofs.fewest.WillDoTest.passes.Goals as goal
+use Rattle.rewriting.proofs.fewest.WillDoPartialTest.passes.Goals as goal
 
 pub returns : goal.returns
 unfolding will_do expand

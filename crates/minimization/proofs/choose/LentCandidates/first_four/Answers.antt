@@ -4,7 +4,7 @@ use Rattle.question.specs.Lent.{line_of}
 use Rattle.minimization.specs.Meant.{meant}
 use Rattle.minimization.proofs.Taken.{none-taken, behind-taken, more-taken}
 use Rattle.minimization.proofs.After.{begin, enter, over, tried}
-use Rattle.minimization.proofs.choose.Candidates.first_four.Goals as goal
+use Rattle.minimization.proofs.choose.LentCandidates.first_four.Goals as goal
 
 pub found-init : goal.found-init
 found-init g c = (refl, begin _ _ 4 _ c.nothing-none.ensures, c.requires.taken)

@@ -1,5 +1,5 @@
 use Rattle.minimization.specs.Least.{says_same}
-use Rattle.minimization.proofs.shorten.SaysSameTest.passes.Goals as goal
+use Rattle.minimization.proofs.shorten.SaysSamePartialTest.passes.Goals as goal
 
 pub returns : goal.returns
 unfolding says_same
